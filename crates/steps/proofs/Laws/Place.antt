@@ -1,0 +1,61 @@
+-- The laws that proofs use of `specs/Place.antt`. No contract cites this file. Assumes nothing.
+use Prim.Native.Nat.{ℕ, zero, suc, _+_, _-_, _<_, _≤_}
+use mathlib.Core.List.{List, [], _∷_}
+use mathlib.Core.Path.{_≡_, refl, sym, ap, _∙_}
+use native.Mathlib.Nat.{not-suc-le-zero}
+use native.Mathlib.Omega.{arith}
+use lib.ListN.{length, getD, set, replicate, length-set}
+use Rattle.steps.specs.Place.{bytesFrom, spread}
+
+pub length-spread : {A : Type 0} (d : ℕ) (s : List A) (i : ℕ) (vs : List A) → length (spread d s i vs) ≡ length s
+unfolding spread
+length-spread d s i [] = refl
+length-spread d s i (v ∷ vs) = length-spread d (set s i v) (i + d) vs ∙ length-set s i v
+
+-- one value of a run, and the rest
+pub spread-run : {A : Type 0} (d : ℕ) (s : List A) (i n : ℕ) (v : A) → 0 < n → spread d s i (replicate n v) ≡ spread d (set s i v) (i + d) (replicate (n - 1) v)
+unfolding spread
+spread-run d s i zero v h = absurd (not-suc-le-zero h)
+spread-run d s i (suc n) v h =
+    let e : n ≡ suc n - 1 = omega arith in
+    ap (λ (k : ℕ). spread d (set s i v) (i + d) (replicate k v)) e
+
+-- one literal byte, and the rest
+pub spread-literal : (d : ℕ) (s : List ℕ) (i n : ℕ) (xs : List ℕ) (p : ℕ) → 0 < n
+    → spread d s i (bytesFrom xs p n) ≡ spread d (set s i (getD xs p 0)) (i + d) (bytesFrom xs (p + 1) (n - 1))
+unfolding spread bytesFrom
+spread-literal d s i zero xs p h = absurd (not-suc-le-zero h)
+spread-literal d s i (suc n) xs p h =
+    let e : n ≡ suc n - 1 = omega arith in
+    ap (λ (k : ℕ). spread d (set s i (getD xs p 0)) (i + d) (bytesFrom xs (p + 1) k)) e
+
+pub spread-none : {A : Type 0} (d : ℕ) (s : List A) (i n : ℕ) (v : A) → n ≤ 0 → spread d s i (replicate n v) ≡ s
+unfolding spread
+spread-none d s i zero v h = refl
+spread-none d s i (suc n) v h = absurd (not-suc-le-zero h)
+
+pub spread-no-literal : (d : ℕ) (s : List ℕ) (i n : ℕ) (xs : List ℕ) (p : ℕ) → n ≤ 0 → spread d s i (bytesFrom xs p n) ≡ s
+unfolding spread bytesFrom
+spread-no-literal d s i zero xs p h = refl
+spread-no-literal d s i (suc n) xs p h = absurd (not-suc-le-zero h)
+
+-- ---- a loop that stores from the front: what is wanted is what the rest gives. Stated over the values that the code has in hand
+pub literal-again : (d : ℕ) (s w : List ℕ) (i n : ℕ) (xs : List ℕ) (p b : ℕ) → spread d s i (bytesFrom xs p n) ≡ w → 0 < n → b ≡ getD xs p 0
+    → spread d (set s i b) (i + d) (bytesFrom xs (p + 1) (n - 1)) ≡ w
+literal-again d s w i n xs p b e h eb = rw eb (sym (spread-literal d s i n xs p h) ∙ e)
+
+pub literal-end : (d : ℕ) (s w : List ℕ) (i n : ℕ) (xs : List ℕ) (p : ℕ) → spread d s i (bytesFrom xs p n) ≡ w → n ≤ 0 → s ≡ w
+literal-end d s w i n xs p e h = sym (spread-no-literal d s i n xs p h) ∙ e
+
+pub run-again : {A : Type 0} (d : ℕ) (s w : List A) (i n : ℕ) (v : A) → spread d s i (replicate n v) ≡ w → 0 < n → spread d (set s i v) (i + d) (replicate (n - 1) v) ≡ w
+run-again d s w i n v e h = sym (spread-run d s i n v h) ∙ e
+
+pub run-end : {A : Type 0} (d : ℕ) (s w : List A) (i n : ℕ) (v : A) → spread d s i (replicate n v) ≡ w → n ≤ 0 → s ≡ w
+run-end d s w i n v e h = sym (spread-none d s i n v h) ∙ e
+
+-- three stores one after another
+pub put-three : {A : Type 0} (s : List A) (o : ℕ) (a b c : A) → set (set (set s o a) (o + 1) b) (o + 2) c ≡ spread 1 s o (a ∷ b ∷ c ∷ [])
+unfolding spread
+put-three s o a b c =
+    let j : o + 2 ≡ o + 1 + 1 = omega arith in
+    rw j

@@ -1,0 +1,4 @@
+-- The vocabulary that the definitions of every crate share.
+pub mod Loop
+pub mod Place
+pub mod Answer
