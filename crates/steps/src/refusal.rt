@@ -7,15 +7,27 @@ pub struct Refusal {
 }
 
 pub const FIRST_LINE: u8 = 1;
+
 pub const AXES: u8 = 2;
+
 pub const SIZE: u8 = 3;
+
 pub const TOO_HIGH: u8 = 4;
+
 pub const TOO_WIDE: u8 = 5;
+
 pub const SHORT_OUTPUT: u8 = 6;
+
 pub const NO_WIDTH: u8 = 7;
+
 pub const SHORT_STORE: u8 = 8;
+
 pub const BYTES_END: u8 = 9;
+
 pub const OVER_LIMIT: u8 = 10;
+
 pub const WRONG_LENGTH: u8 = 11;
+
 pub const TOO_BRIGHT: u8 = 12;
+
 pub const NO_ROOM: u8 = 13;
