@@ -14,6 +14,10 @@ pub data Answer (A : Type 0) : Type 0 where
 abbrev pub refusalOf : {A : Type 0} → Refusal → Answer A
 refusalOf r = refused (r .number) (r .place)
 
+-- a refusal that reports place 0
+abbrev pub refuse : {A : Type 0} → ℕ → Answer A
+refuse number = refused number 0
+
 -- a check of the table: its number, and whether it fails
 pub data Check : Type 0 where
   check : ℕ → Bool → Check

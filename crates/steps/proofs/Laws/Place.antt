@@ -1,6 +1,6 @@
 -- The laws that proofs use of `specs/Place.antt`. No contract cites this file. Assumes nothing.
 use Prim.Native.Nat.{ℕ, zero, suc, _+_, _-_, _<_, _≤_}
-use mathlib.Core.List.{List, [], _∷_}
+use mathlib.Core.List.{List, [], _∷_, _++_}
 use mathlib.Core.Path.{_≡_, refl, sym, ap, _∙_}
 use native.Mathlib.Nat.{not-suc-le-zero}
 use native.Mathlib.Omega.{arith}
@@ -11,6 +11,17 @@ pub length-spread : {A : Type 0} (d : ℕ) (s : List A) (i : ℕ) (vs : List A) 
 unfolding spread
 length-spread d s i [] = refl
 length-spread d s i (v ∷ vs) = length-spread d (set s i v) (i + d) vs ∙ length-set s i v
+
+-- what is stored after other values is stored after them
+pub spread-append : {A : Type 0} (s : List A) (i : ℕ) (us vs : List A) → spread 1 s i (us ++ vs) ≡ spread 1 (spread 1 s i us) (i + length us) vs
+unfolding spread
+spread-append s i [] vs = ap (λ (j : ℕ). spread 1 s j vs) (let e : i ≡ i + 0 = omega arith in e)
+spread-append s i (u ∷ us) vs =
+    let j : i + 1 + length us ≡ i + suc (length us) = omega arith in
+    spread-append (set s i u) (i + 1) us vs ∙ ap (λ (k : ℕ). spread 1 (spread 1 (set s i u) (i + 1) us) k vs) j
+
+pub spread-then : {A : Type 0} (s s′ : List A) (i j : ℕ) (us vs : List A) → s′ ≡ spread 1 s i us → j ≡ i + length us → spread 1 s i (us ++ vs) ≡ spread 1 s′ j vs
+spread-then s s′ i j us vs e k = spread-append s i us vs ∙ sym (rw (e, k))
 
 -- one value of a run, and the rest
 pub spread-run : {A : Type 0} (d : ℕ) (s : List A) (i n : ℕ) (v : A) → 0 < n → spread d s i (replicate n v) ≡ spread d (set s i v) (i + d) (replicate (n - 1) v)

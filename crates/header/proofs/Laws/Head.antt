@@ -1,0 +1,132 @@
+-- The laws that proofs use of `specs/Head.antt`, and that two answers which meet the promise of `header::read` are equal.
+use Prim.Native.Nat.{ℕ, _<_, _≤_, min}
+use mathlib.Core.Bool.{Bool, true, false, _&&_}
+use mathlib.Core.List.{List}
+use mathlib.Core.Path.{_≡_, refl, sym, ap, _∙_}
+use native.Mathlib.Omega.{arith}
+use borrow.Author.Tests.{lt-ltb, le-ltb}
+use Rattle.steps.specs.Loop.{pick}
+use Rattle.steps.specs.Answer.{Answer, refuse, done, refused}
+use Rattle.header.specs.Lines.{lineFeed, space, past, between, firstLine, isFirst, linesEnd}
+use Rattle.header.specs.Fields.{Fields, trim, fieldsAt, axesOf}
+use Rattle.header.specs.Sizes.{sizeOf, isSize, sizeAnswer}
+use Rattle.header.specs.Head.{fieldsOf, heightField, widthField, isOther, headBy, headOf, headChecks, headerOf, paperOf, HeaderPromise, sizesAnswer, fieldsAnswer}
+use Rattle.header.specs.declared.sizes.Size.{Size}
+use Rattle.header.specs.declared.sizes.Size.the-variants.{Number, NoNumber}
+use Rattle.header.specs.declared.fields.Axes.{Axes}
+use Rattle.header.specs.declared.fields.Axes.the-variants.{HeightFirst, WidthFirst, Other}
+use Rattle.header.specs.declared.Head.{Head}
+use Rattle.header.specs.declared.HeadAnswer.{HeadAnswer}
+use Rattle.header.specs.declared.HeadAnswer.the-variants.{Read, Refused}
+
+-- ---- What a size's answer tells
+
+tells : (field : List ℕ) (t : Bool) → isSize field ≡ t → sizeAnswer field ≡ pick t (Number (sizeOf field)) NoNumber
+unfolding sizeAnswer
+tells field t e = simp e
+
+no-number : (k : ℕ) → Number k ≡ NoNumber → ⊥
+no-number k e = let z : _≡_ {A = ℕ} 0 1 = cc in omega arith
+
+module _ (field : List ℕ) (s : Size) (is : s ≡ sizeAnswer field) where
+  is-size : (k : ℕ) (t : Bool) → isSize field ≡ t → s ≡ Number k → (isSize field ≡ true) × (sizeOf field ≡ k)
+  is-size k true e h = let same : Number k ≡ Number (sizeOf field) = sym h ∙ is ∙ tells field true e in (e, cc)
+  is-size k false e h = absurd (no-number k (sym h ∙ is ∙ tells field false e))
+
+  no-size : (t : Bool) → isSize field ≡ t → s ≡ NoNumber → isSize field ≡ false
+  no-size true e h = absurd (no-number (sizeOf field) (sym (is ∙ tells field true e) ∙ h))
+  no-size false e h = e
+
+-- ---- The sizes
+
+module _ (height width : List ℕ) (taken widest highest : ℕ) (s : Size) (is : s ≡ sizeAnswer height) where
+  pub sizes-no-height : (a : Answer Head) → s ≡ NoNumber → a ≡ refuse 3 → a ≡ sizesAnswer height width taken widest highest
+  unfolding sizesAnswer
+  sizes-no-height a n e = e ∙ simp (no-size height s is _ refl n)
+
+  module _ (h : ℕ) (eh : s ≡ Number h) (t : Size) (it : t ≡ sizeAnswer width) where
+    pub sizes-no-width : (a : Answer Head) → t ≡ NoNumber → a ≡ refuse 3 → a ≡ sizesAnswer height width taken widest highest
+    unfolding sizesAnswer
+    sizes-no-width a n e = e ∙ simp (is-size height s is h _ refl eh .0, no-size width t it _ refl n)
+
+    module _ (w : ℕ) (ew : t ≡ Number w) (l : ℕ) (el : l ≡ min highest 65535) where
+      both : isSize height && isSize width ≡ true
+      both = simp (is-size height s is h _ refl eh .0, is-size width t it w _ refl ew .0)
+
+      height-is : sizeOf height ≡ h
+      height-is = is-size height s is h _ refl eh .1
+
+      width-is : sizeOf width ≡ w
+      width-is = is-size width t it w _ refl ew .1
+
+      pub sizes-high : (a : Answer Head) → l < h → a ≡ refuse 4 → a ≡ sizesAnswer height width taken widest highest
+      unfolding sizesAnswer
+      sizes-high a over e = let k : min highest 65535 < h = rw (← el) over in e ∙ simp (both, height-is, lt-ltb (min highest 65535) h k)
+
+      module _ (fits : h ≤ l) (m : ℕ) (em : m ≡ min widest 65535) where
+        pub sizes-wide : (a : Answer Head) → m < w → a ≡ refuse 5 → a ≡ sizesAnswer height width taken widest highest
+        unfolding sizesAnswer
+        sizes-wide a over e =
+            let i : h ≤ min highest 65535 = rw (← el) fits in
+            let k : min widest 65535 < w = rw (← em) over in
+            e ∙ simp (both, height-is, width-is, le-ltb (min highest 65535) h i, lt-ltb (min widest 65535) w k)
+
+        pub sizes-read : w ≤ m → done (record { width = w; height = h; taken = taken }) ≡ sizesAnswer height width taken widest highest
+        unfolding sizesAnswer
+        sizes-read under =
+            let i : h ≤ min highest 65535 = rw (← el) fits in
+            let k : w ≤ min widest 65535 = rw (← em) under in
+            simp (both, height-is, width-is, le-ltb (min highest 65535) h i, le-ltb (min widest 65535) w k)
+
+-- ---- The four fields, where a, b, c and d are the places after them
+
+module _ (bytes : List ℕ) (at a b c d : ℕ) (ea : a ≡ past space bytes at) (eb : b ≡ past space bytes a) (ec : c ≡ past space bytes b) (ed : d ≡ past lineFeed bytes c)
+    (first second third fourth : List ℕ)
+    (e1 : first ≡ trim (between bytes at a)) (e2 : second ≡ trim (between bytes a b)) (e3 : third ≡ trim (between bytes b c)) (e4 : fourth ≡ trim (between bytes c d)) where
+  fields : Fields
+  fields = record { first = first; second = second; third = third; fourth = fourth; taken = d }
+
+  fields-are : fieldsAt bytes at ≡ fields
+  unfolding fieldsAt fields
+  fields-are = simp (← ea, ← eb, ← ec, ← ed, ← e1, ← e2, ← e3, ← e4)
+
+  module _ (widest highest : ℕ) (axes : Axes) (is : axes ≡ axesOf first third) (r : Answer Head) where
+    answer-by : fieldsAnswer (fieldsAt bytes at) widest highest ≡ pick (isOther axes) (refuse 2) (sizesAnswer (heightField axes fields) (widthField axes fields) d widest highest)
+    unfolding fieldsAnswer headOf sizesAnswer fields
+    answer-by = rw fields-are (simp (← is))
+
+    pub fields-height : axes ≡ HeightFirst → r ≡ sizesAnswer second fourth d widest highest → r ≡ fieldsAnswer (fieldsAt bytes at) widest highest
+    unfolding fields
+    fields-height k e = e ∙ sym (answer-by ∙ simp k)
+
+    pub fields-width : axes ≡ WidthFirst → r ≡ sizesAnswer fourth second d widest highest → r ≡ fieldsAnswer (fieldsAt bytes at) widest highest
+    unfolding fields
+    fields-width k e = e ∙ sym (answer-by ∙ simp k)
+
+    pub fields-other : axes ≡ Other → r ≡ refuse 2 → r ≡ fieldsAnswer (fieldsAt bytes at) widest highest
+    fields-other k e = e ∙ sym (answer-by ∙ simp k)
+
+-- ---- The whole header
+
+module _ (bytes : List ℕ) (widest highest at : ℕ) (ea : at ≡ past lineFeed bytes 0) (t : Bool) (is : t ≡ isFirst (between bytes 0 at)) (r : Answer Head) where
+  first-is : isFirst (firstLine bytes) ≡ t
+  first-is = ap (λ (n : ℕ). isFirst (between bytes 0 n)) (sym ea) ∙ sym is
+
+  pub header-wrong : t ≡ false → r ≡ refuse 1 → r ≡ headerOf bytes widest highest
+  unfolding headerOf headChecks
+  header-wrong k e = e ∙ simp (first-is, k)
+
+  pub header-right : (end : ℕ) → t ≡ true → end ≡ linesEnd bytes at → r ≡ fieldsAnswer (fieldsAt bytes end) widest highest → r ≡ headerOf bytes widest highest
+  unfolding headerOf headChecks fieldsAnswer fieldsOf
+  header-right end k l e = e ∙ rw (l, ea) (simp (first-is, k))
+
+-- ---- One answer
+
+by-paper : (a b : HeadAnswer) → paperOf a ≡ paperOf b → a ≡ b
+by-paper (Read x) (Read y) e = let same : x ≡ y = cc in rw same
+by-paper (Read x) (Refused s) e = absurd (let z : _≡_ {A = ℕ} 0 1 = cc in omega arith)
+by-paper (Refused r) (Read y) e = absurd (let z : _≡_ {A = ℕ} 0 1 = cc in omega arith)
+by-paper (Refused r) (Refused s) e = let n : r .number ≡ s .number = cc in let p : r .place ≡ s .place = cc in λ i. Refused (record { number = n i; place = p i })
+
+pub header-once : (bytes : List ℕ) (widest highest : ℕ) (a b : HeadAnswer) → HeaderPromise bytes widest highest a → HeaderPromise bytes widest highest b → a ≡ b
+header-once bytes widest highest a b p q = by-paper a b (p ∙ sym q)

@@ -1,0 +1,88 @@
+-- Document 01: what reading the header answers, with the checks 1 to 5 of "Numbers returned".
+use Prim.Native.Nat.{ℕ, min}
+use mathlib.Core.Bool.{Bool, true, false, not, _&&_}
+use mathlib.Core.List.{List, [], _∷_}
+use mathlib.Core.Path.{_≡_}
+use lib.Dec.{ltb}
+use Rattle.steps.specs.Answer.{Answer, done, refuse, refusalOf, Check, check, checked}
+use Rattle.header.specs.Lines.{lineFeed, past, firstLine, isFirst, linesEnd}
+use Rattle.header.specs.Fields.{Fields, fieldsAt, axesOf}
+use Rattle.header.specs.Sizes.{sizeOf, isSize}
+use Rattle.header.specs.declared.fields.Axes.{Axes}
+use Rattle.header.specs.declared.fields.Axes.the-variants.{HeightFirst, WidthFirst, Other}
+use Rattle.header.specs.declared.Head.{Head}
+use Rattle.header.specs.declared.HeadAnswer.{HeadAnswer}
+use Rattle.header.specs.declared.HeadAnswer.the-variants.{Read, Refused}
+
+-- the fields after the lines
+unfoldable pub fieldsOf : List ℕ → Fields
+fieldsOf bytes = fieldsAt bytes (linesEnd bytes (past lineFeed bytes 0))
+
+-- -Y h +X w and +X w -Y h both give rows of w: the field of the height, and that of the width
+abbrev pub heightField : Axes → Fields → List ℕ
+heightField HeightFirst f = f .second
+heightField WidthFirst f = f .fourth
+heightField Other f = []
+
+abbrev pub widthField : Axes → Fields → List ℕ
+widthField HeightFirst f = f .fourth
+widthField WidthFirst f = f .second
+widthField Other f = []
+
+-- any axes but these two pairs
+abbrev pub isOther : Axes → Bool
+isOther HeightFirst = false
+isOther WidthFirst = false
+isOther Other = true
+
+-- a limit above 65,535 counts as 65,535
+abbrev pub limit : ℕ → ℕ
+limit most = min most 65535
+
+-- the checks 3 to 5, of the fields of height and width
+abbrev pub sizeChecks : List ℕ → List ℕ → ℕ → ℕ → List Check
+sizeChecks height width widest highest =
+    check 3 (not (isSize height && isSize width))
+    ∷ check 4 (ltb (limit highest) (sizeOf height))
+    ∷ check 5 (ltb (limit widest) (sizeOf width))
+    ∷ []
+
+-- the checks 2 to 5: axes are judged before numbers
+abbrev pub fieldChecks : Axes → Fields → ℕ → ℕ → List Check
+fieldChecks axes f widest highest = check 2 (isOther axes) ∷ sizeChecks (heightField axes f) (widthField axes f) widest highest
+
+-- the checks 1 to 5
+unfoldable pub headChecks : List ℕ → ℕ → ℕ → List Check
+headChecks bytes widest highest =
+    let f = fieldsOf bytes in
+    check 1 (not (isFirst (firstLine bytes))) ∷ fieldChecks (axesOf (f .first) (f .third)) f widest highest
+
+-- width, height, and the count of bytes taken
+abbrev pub headBy : List ℕ → List ℕ → ℕ → Head
+headBy height width taken = record { width = sizeOf width; height = sizeOf height; taken = taken }
+
+unfoldable pub headOf : Fields → Head
+headOf f =
+    let axes = axesOf (f .first) (f .third) in
+    headBy (heightField axes f) (widthField axes f) (f .taken)
+
+-- what reading the header answers
+unfoldable pub headerOf : List ℕ → ℕ → ℕ → Answer Head
+headerOf bytes widest highest = checked refuse (headChecks bytes widest highest) (done (headOf (fieldsOf bytes)))
+
+-- the paper's answer, for each case of the call's answer
+abbrev pub paperOf : HeadAnswer → Answer Head
+paperOf (Read head) = done head
+paperOf (Refused refusal) = refusalOf refusal
+
+-- what `header::read` promises
+abbrev pub HeaderPromise : List ℕ → ℕ → ℕ → HeadAnswer → Type 0
+HeaderPromise bytes widest highest answer = paperOf answer ≡ headerOf bytes widest highest
+
+-- ---- What its parts answer: the sizes alone, and all four fields
+
+unfoldable pub sizesAnswer : List ℕ → List ℕ → ℕ → ℕ → ℕ → Answer Head
+sizesAnswer height width taken widest highest = checked refuse (sizeChecks height width widest highest) (done (headBy height width taken))
+
+unfoldable pub fieldsAnswer : Fields → ℕ → ℕ → Answer Head
+fieldsAnswer f widest highest = checked refuse (fieldChecks (axesOf (f .first) (f .third)) f widest highest) (done (headOf f))

@@ -1,0 +1,35 @@
+-- Document 01, "Header": the header as the writer stores it.
+use Prim.Native.Nat.{ℕ, zero, suc, _+_, _/_, _%_}
+use mathlib.Core.Bool.{true, false}
+use mathlib.Core.List.{List, [], _∷_, _++_}
+use lib.Dec.{ltb}
+use Rattle.header.specs.Lines.{lineFeed, space, radianceLine}
+use Rattle.header.specs.Fields.{minusY, plusX}
+
+-- SOFTWARE=zune-hdr
+abbrev pub softwareLine : List ℕ
+softwareLine = 83 ∷ 79 ∷ 70 ∷ 84 ∷ 87 ∷ 65 ∷ 82 ∷ 69 ∷ 61 ∷ 122 ∷ 117 ∷ 110 ∷ 101 ∷ 45 ∷ 104 ∷ 100 ∷ 114 ∷ lineFeed ∷ []
+
+-- FORMAT=32-bit_rle_rgbe
+abbrev pub formatLine : List ℕ
+formatLine =
+    70 ∷ 79 ∷ 82 ∷ 77 ∷ 65 ∷ 84 ∷ 61 ∷ 51 ∷ 50 ∷ 45 ∷ 98 ∷ 105 ∷ 116 ∷ 95 ∷ 114 ∷ 108 ∷ 101 ∷ 95 ∷ 114 ∷ 103 ∷ 98 ∷ 101 ∷ lineFeed ∷ []
+
+abbrev pub emptyLine : List ℕ
+emptyLine = lineFeed ∷ []
+
+-- the decimal digits of n; k above n is enough
+unfoldable pub digitsBy : ℕ → ℕ → List ℕ
+digitsBy zero n = []
+digitsBy (suc k) n = elim (ltb n 10) [ true ↦ (48 + n) ∷ [] | false ↦ digitsBy k (n / 10) ++ ((48 + n % 10) ∷ []) ]
+
+unfoldable pub digits : ℕ → List ℕ
+digits n = digitsBy (n + 1) n
+
+-- -Y h +X w
+abbrev pub sizeLine : ℕ → ℕ → List ℕ
+sizeLine width height = minusY ++ space ∷ (digits height ++ space ∷ (plusX ++ space ∷ (digits width ++ lineFeed ∷ [])))
+
+-- the lines, one after another
+unfoldable pub written : ℕ → ℕ → List ℕ
+written width height = radianceLine ++ (softwareLine ++ (formatLine ++ (emptyLine ++ sizeLine width height)))

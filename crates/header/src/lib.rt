@@ -1,0 +1,97 @@
+// The header of a Radiance picture: read, and as it is written.
+mod fields;
+mod lines;
+mod sizes;
+mod written;
+
+use fields::Axes;
+use sizes::Size;
+use steps::refusal;
+use steps::refusal::Refusal;
+pub use written::length;
+pub use written::write;
+ghost use mathlib.Core.Path.{_≡_};
+ghost use Prim.Native.Nat.{_≤_};
+ghost use lib.ListN.{length};
+ghost use Rattle.steps.specs.Answer.{refuse};
+ghost use Rattle.header.specs.Fields.{fieldsAt};
+ghost use Rattle.header.specs.Head.{sizesAnswer, fieldsAnswer, paperOf, HeaderPromise};
+
+// What a header says, and how many bytes it takes.
+pub struct Head {
+    pub width: usize,
+    pub height: usize,
+    pub taken: usize,
+}
+
+// What reading a header answers.
+pub enum HeadAnswer {
+    Read(Head),
+    Refused(Refusal),
+}
+
+// A refusal that names no place.
+fn refused(number: u8) -> HeadAnswer
+    ensures { λ r. ⌜ paperOf r ≡ refuse number ⌝ }
+{
+    HeadAnswer::Refused(Refusal { number, place: 0 })
+}
+
+// The checks 3 to 5 of the fields of height and width.
+fn read_sizes(
+    height: &[u8],
+    width: &[u8],
+    taken: usize,
+    widest: usize,
+    highest: usize,
+) -> HeadAnswer
+    ensures { λ r. ⌜ paperOf r ≡ sizesAnswer (now (height .entry)) (now (width .entry)) taken widest highest ⌝ }
+{
+    let Size::Number(h) = sizes::size_of(height) else {
+        return refused(refusal::SIZE);
+    };
+    let Size::Number(w) = sizes::size_of(width) else {
+        return refused(refusal::SIZE);
+    };
+    if steps::least(highest, 65535) < h {
+        return refused(refusal::TOO_HIGH);
+    }
+    if steps::least(widest, 65535) < w {
+        return refused(refusal::TOO_WIDE);
+    }
+    HeadAnswer::Read(Head {
+        width: w,
+        height: h,
+        taken,
+    })
+}
+
+// The four fields from `at` on, and their checks.
+fn read_fields(bytes: &[u8], at: usize, widest: usize, highest: usize) -> HeadAnswer
+    requires { ⌜ at ≤ length (now bytes) ⌝ }
+    ensures { λ r. ⌜ paperOf r ≡ fieldsAnswer (fieldsAt (now (bytes .entry)) at) widest highest ⌝ }
+{
+    let a = lines::past(bytes, at, 32);
+    let b = lines::past(bytes, a, 32);
+    let c = lines::past(bytes, b, 32);
+    let d = lines::past(bytes, c, 10);
+    let second = fields::trim(&bytes[a..b]);
+    let fourth = fields::trim(&bytes[c..d]);
+    let axes = fields::axes_of(fields::trim(&bytes[at..a]), fields::trim(&bytes[b..c]));
+    match axes {
+        Axes::HeightFirst => read_sizes(second, fourth, d, widest, highest),
+        Axes::WidthFirst => read_sizes(fourth, second, d, widest, highest),
+        Axes::Other => refused(refusal::AXES),
+    }
+}
+
+// The header at the start of the bytes.
+pub fn read(bytes: &[u8], widest: usize, highest: usize) -> HeadAnswer
+    ensures { λ r. ⌜ HeaderPromise (now (bytes .entry)) widest highest r ⌝ }
+{
+    let at = lines::past(bytes, 0, 10);
+    if lines::is_first(&bytes[0..at]) {
+        return read_fields(bytes, lines::lines_end(bytes, at), widest, highest);
+    }
+    refused(refusal::FIRST_LINE)
+}
