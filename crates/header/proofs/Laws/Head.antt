@@ -6,11 +6,11 @@ use mathlib.Core.Path.{_≡_, refl, sym, ap, _∙_}
 use native.Mathlib.Omega.{arith}
 use borrow.Author.Tests.{lt-ltb, le-ltb}
 use Rattle.steps.specs.Loop.{pick}
-use Rattle.steps.specs.Answer.{Answer, refuse, done, refused}
+use Rattle.steps.specs.Answer.{Answer, refuse, done}
 use Rattle.header.specs.Lines.{lineFeed, space, past, between, firstLine, isFirst, linesEnd}
 use Rattle.header.specs.Fields.{Fields, trim, fieldsAt, axesOf}
 use Rattle.header.specs.Sizes.{sizeOf, isSize, sizeAnswer}
-use Rattle.header.specs.Head.{fieldsOf, heightField, widthField, isOther, headBy, headOf, headChecks, headerOf, paperOf, HeaderPromise, sizesAnswer, fieldsAnswer}
+use Rattle.header.specs.Head.{fieldsOf, heightField, widthField, isOther, headOf, headChecks, headerOf, paperOf, HeaderPromise, sizesAnswer, fieldsAnswer}
 use Rattle.header.specs.declared.sizes.Size.{Size}
 use Rattle.header.specs.declared.sizes.Size.the-variants.{Number, NoNumber}
 use Rattle.header.specs.declared.fields.Axes.{Axes}

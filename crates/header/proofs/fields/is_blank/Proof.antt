@@ -1,5 +1,4 @@
 -- `header::fields::is_blank` meets its contract: each `return` is a case of `isBlank`.
-use borrow.Author.Needs.{needs}
 use Rattle.header.proofs.Laws.Fields.{blank-space, blank-low, blank-by}
 use Rattle.header.proofs.fields.is_blank.Statement.{statement}
 use Rattle.header.proofs.fields.is_blank.Tie as tie

@@ -1,8 +1,7 @@
 -- `header::fields::trim_end` meets its contract. The invariant: all from `end` on is white space.
 use borrow.Author.Needs.{needs}
-use mathlib.Core.Path.{_≡_, refl, ap}
-use mathlib.Core.List.{List}
-use Prim.Native.Nat.{ℕ, _≤_}
+use mathlib.Core.Path.{_≡_, ap}
+use Prim.Native.Nat.{_≤_}
 use lib.ListN.{length, take}
 use lib.Seq.{take-length}
 use Rattle.header.specs.Fields.{trimEnd}

@@ -3,7 +3,7 @@ use borrow.Author.Needs.{needs}
 use Prim.Native.Nat.{_-_, _≤_}
 use lib.ListN.{length}
 use Rattle.steps.proofs.Laws.Loop.{Runs}
-use Rattle.header.specs.Lines.{lineFeed, lineTurn, noLines, linesEnd}
+use Rattle.header.specs.Lines.{lineTurn, noLines, linesEnd}
 use Rattle.header.proofs.Laws.Lines.{line-less, lines-start, lines-done, lines-blank, lines-on}
 use Rattle.header.proofs.lines.lines_end.Statement.{statement}
 use Rattle.header.proofs.lines.lines_end.Tie as tie

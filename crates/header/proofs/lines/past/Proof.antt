@@ -1,8 +1,7 @@
 -- `header::lines::past` meets its contract. The invariant: from here the same place is found.
 use borrow.Author.Needs.{needs}
-use mathlib.Core.Path.{_≡_, refl, sym, _∙_}
+use mathlib.Core.Path.{_≡_, refl}
 use Prim.Native.Nat.{_-_, _≤_}
-use native.Mathlib.Omega.{arith}
 use lib.ListN.{length}
 use Rattle.header.specs.Lines.{past}
 use Rattle.header.proofs.Laws.Lines.{past-end, past-found, past-on}

@@ -1,8 +1,7 @@
 -- `header::lines::same` meets its contract. The invariant: what is left is the same exactly if the whole is.
 use borrow.Author.Needs.{needs}
-use mathlib.Core.Path.{_≡_, refl, _∙_}
+use mathlib.Core.Path.{_≡_, refl}
 use Prim.Native.Nat.{_-_, _≤_}
-use native.Mathlib.Omega.{arith}
 use lib.ListN.{length, drop}
 use Rattle.header.specs.Lines.{same}
 use Rattle.header.proofs.Laws.Lines.{same-length, same-end, same-on, same-not}

@@ -1,5 +1,4 @@
 -- `header::written::digit_count` meets its contract: one digit more than n / 10 has. The measure is n.
-use borrow.Author.Needs.{needs}
 use native.Mathlib.Omega.{arith}
 use Rattle.header.proofs.Laws.Written.{digits-few, count-one, count-more}
 use Prim.Native.Nat.{ℕ, _/_, _<_}
