@@ -1,8 +1,8 @@
 -- 'e has 2^(e-1) <= v < 2^e': e + 149 is the count of binary digits of v, and the exponent field of its bits is that count less 23.
-use mathlib.Core.Path.{_≡_, sym, ap, _∙_, subst}
+use mathlib.Core.Path.{_≡_, ap, _∙_, subst}
 use mathlib.Core.Logic.{⊎-elim}
 use Prim.Native.Nat.{ℕ, _+_, _-_, _*_, _/_, _^_, _≤_, _<_}
-use native.Mathlib.Nat.{le-div-iff-mul-le, lt-irrefl, lt-of-lt-of-le, le-trans, le-of-lt, le-antisymm}
+use native.Mathlib.Nat.{le-div-iff-mul-le, lt-irrefl, lt-of-lt-of-le, le-trans, le-of-lt}
 use native.Mathlib.Omega.{arith}
 use lib.Dec.{T, lit≤}
 use lib.Pow.{pow-pos, pow-add, pow-mono}

@@ -7,7 +7,7 @@ use native.Mathlib.Omega.{arith}
 use lib.Dec.{T}
 use lib.Pow.{pow-add}
 use lib.Ieee.{Float, nan, inf, fin, binary32, up, down, ofBits, ofFields, odd, fits, size, toBits, nanBits}
-use lib.Ieee.Exact.{HasValue, odd-sign}
+use lib.Ieee.Exact.{odd-sign}
 use lib.Ieee.Fits.{down-pos}
 use lib.Ieee.Bits.{ofBits-toBits, ofBits-fits, nanBits-above}
 use borrow.Author.Tests.{lt-leb, ne-eqb, le-ltb}

@@ -3,14 +3,13 @@ use mathlib.Core.Path.{_≡_, refl, sym, ap, _∙_, subst}
 use mathlib.Core.Bool.{Bool, true, false, not, _&&_}
 use mathlib.Core.Logic.{⊎-elim}
 use Prim.Native.Nat.{ℕ, zero, suc, _+_, _-_, _*_, _/_, _%_, _^_, _≤_, zero-le, _<_}
-use native.Mathlib.Nat.{mul-pos, mul-div-cancel, mul-assoc, mul-right-comm, mul-one, zero-mul, zero-div, le-of-lt, lt-irrefl, lt-of-lt-of-le, lt-of-mul-lt-mul-right, mul-lt-mul-of-pos-right}
+use native.Mathlib.Nat.{mul-pos, mul-div-cancel, mul-assoc, mul-right-comm, mul-one, zero-mul, le-of-lt, lt-irrefl, lt-of-lt-of-le, lt-of-mul-lt-mul-right, mul-lt-mul-of-pos-right}
 use native.Mathlib.Omega.{arith}
 use lib.IntN.{ℤ, pos, negsuc}
 use lib.Dec.{T, ltb, leb, eqb, lit<, leb→le, ltb→lt, eqb→eq}
 use lib.Pow.{pow-pos, pow-add, pow-mono, pow-lt, shl-lt}
 use lib.Ieee.{Float, nan, inf, fin, binary32, up, down, lt, fits, isNan}
 use lib.Ieee.Digits.{Equals}
-use lib.Ieee.Exact.{HasValue}
 use lib.Ieee.Fits.{down-pos, and-l, and-r}
 use borrow.Author.Tests.{lt-ltb, le-ltb, ltb-true, ltb-false}
 use Rattle.pixel.specs.Units.{Exactly, mag, bright, plain}

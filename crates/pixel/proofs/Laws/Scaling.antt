@@ -1,25 +1,23 @@
 -- A sample times a power of two, rounded down.
 use mathlib.Core.Path.{_≡_, refl, sym, ap, _∙_, subst}
-use mathlib.Core.Bool.{Bool, true, false, cond, not}
-use mathlib.Core.Logic.{⊎-elim, _⊎_, inl, inr}
-use Prim.Native.Nat.{ℕ, zero, suc, _+_, _-_, _*_, _/_, _%_, _^_, _≤_, _<_, zero-le, min, compare}
-use native.Mathlib.Nat.{mul-pos, mul-comm, mul-assoc, mul-right-comm, mul-left-comm, mul-one, one-mul, lt-irrefl, lt-of-lt-of-le, lt-of-le-of-lt, le-trans, le-of-eq, lt-of-mul-lt-mul-right, mul-lt-mul-of-pos-right, div-lt-iff-lt-mul, div-eq-of-lt, min-eq-left, zero-lt-suc}
+use mathlib.Core.Bool.{Bool, true, false}
+use mathlib.Core.Logic.{⊎-elim}
+use Prim.Native.Nat.{ℕ, suc, _+_, _-_, _*_, _/_, _%_, _^_, _≤_, _<_, min, compare}
+use native.Mathlib.Nat.{mul-pos, mul-comm, mul-assoc, mul-one, lt-irrefl, lt-of-lt-of-le, lt-of-mul-lt-mul-right, mul-lt-mul-of-pos-right, div-lt-iff-lt-mul, div-eq-of-lt, min-eq-left}
 use native.Mathlib.Omega.{arith}
-use lib.IntN.{ℤ, pos, negsuc}
+use lib.IntN.{ℤ, pos}
 use lib.Dec.{T, ltb, lit<, lit≤, lt→ltb}
-use lib.Pow.{pow-pos, pow-add, pow-mono, shl-lt}
-use lib.Ieee.{Float, nan, inf, fin, binary32, up, down, lt, fits, size, nearest, round, mul, toUnsigned}
+use lib.Pow.{pow-pos, pow-mono, shl-lt}
+use lib.Ieee.{Float, nan, inf, fin, binary32, up, down, lt, fits, size, round, mul, toUnsigned}
 use lib.Ieee.Exact.{HasValue, round-exact}
-use lib.Ieee.Fits.{up-pos, down-pos, nearest-le}
+use lib.Ieee.Fits.{down-pos, nearest-le}
 use lib.Ieee.Nearest.{div-same, closest}
 use lib.Ieee.Digits.{size-le}
 use lib.Ieee.Scale.{round-val, grid}
-use Rattle.pixel.specs.Units.{Exactly, mag, bright}
-use Rattle.pixel.specs.Rgbe.{byteOf}
+use Rattle.pixel.specs.Units.{mag, bright}
 use Rattle.pixel.proofs.Laws.Numbers.{either, pw, mp}
 use Rattle.pixel.proofs.Laws.Units.{mul-values}
 use Rattle.pixel.proofs.Laws.Samples.{shape, own-value, own-mag, cross}
-use Rattle.pixel.proofs.Laws.Written.{byte-lt}
 
 -- ---- the whole part of a value
 -- what the cast to an integer asks, and what it gives

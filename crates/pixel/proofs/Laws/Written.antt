@@ -13,7 +13,6 @@ use lib.Ieee.Nearest.{div-same}
 use borrow.Author.Tests.{le-leb, lt-leb, lt-ltb, le-ltb, ltb-true}
 use Rattle.steps.specs.Loop.{pick}
 use Rattle.pixel.specs.declared.Pixel.{Pixel}
-use Rattle.pixel.specs.declared.Rgbe.{Rgbe}
 use Rattle.pixel.specs.Units.{mag}
 use Rattle.pixel.specs.Rgbe.{peak, dark, byteOf, coded, black, tooBright, bytesOf, Written}
 use Rattle.pixel.proofs.Laws.Numbers.{either, pw}

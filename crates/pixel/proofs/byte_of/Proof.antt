@@ -1,12 +1,12 @@
 -- `pixel::byte_of` meets its contract: the product is exact or below 1, so its whole part is that of the sample times the power.
 use mathlib.Core.Path.{_≡_, refl, sym, ap, _∙_, subst}
-use mathlib.Core.Bool.{true, false}
-use Prim.Native.Nat.{ℕ, _+_, _-_, _*_, _/_, _^_, _≤_, _<_}
+use mathlib.Core.Bool.{false}
+use Prim.Native.Nat.{ℕ, _-_, _*_, _/_, _^_, _≤_, _<_}
 use native.Mathlib.Nat.{zero-div}
 use native.Mathlib.Omega.{arith}
 use lib.Dec.{T}
 use lib.Arith.{le-zero}
-use lib.Ieee.{Float, binary32, ofBits, mul, lt, fits}
+use lib.Ieee.{Float, binary32, ofBits, mul, fits}
 use lib.Ieee.Exact.{HasValue}
 use lib.Ieee.Bits.{ofBits-fits}
 use denote.Floats.{passes}

@@ -1,10 +1,9 @@
 -- `pixel::crate_scale` meets its contract.
-use mathlib.Core.Path.{_≡_, refl, sym, ap, _∙_}
+use mathlib.Core.Path.{_≡_, sym, ap, _∙_}
 use Prim.Native.Nat.{ℕ, _<_, _^_}
 use native.Mathlib.Omega.{arith}
 use lib.Ieee.{ofBits, round, binary32}
 use borrow.Author.Needs.{needs}
-use borrow.Author.Tests.{eq-eqb}
 use Rattle.pixel.specs.Units.{ofUnits}
 use Rattle.pixel.specs.Rgbe.{crateShift, crateScale}
 use Rattle.pixel.proofs.Laws.Scales.{crate-at, crate-high, crate-low}

@@ -1,12 +1,12 @@
 -- `pixel::is_too_bright` meets its contract.
 use mathlib.Core.Path.{_≡_, sym, ap, _∙_}
-use mathlib.Core.Bool.{Bool, not}
+use mathlib.Core.Bool.{not}
 use Prim.Native.Nat.{ℕ, _^_}
 use lib.Dec.{ltb}
 use lib.Ieee.{binary32, ofBits, lt}
 use denote.Floats.{passes}
 use borrow.Author.Needs.{needs}
-use Rattle.pixel.specs.Rgbe.{peak, tooBright}
+use Rattle.pixel.specs.Rgbe.{tooBright}
 use Rattle.pixel.proofs.Laws.Limits.{below-limit}
 use Rattle.pixel.proofs.Laws.Written.{bright-by-test}
 use Rattle.pixel.proofs.is_too_bright.Statement.{statement}

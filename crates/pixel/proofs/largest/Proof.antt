@@ -1,5 +1,5 @@
 -- `pixel::largest` meets its contract.
-use mathlib.Core.Path.{_≡_, refl, sym, ap, _∙_}
+use mathlib.Core.Path.{_≡_, ap, _∙_}
 use Prim.Native.Nat.{ℕ, max, zero-le}
 use native.Mathlib.Nat.{max-eq-right}
 use borrow.Author.Needs.{needs}

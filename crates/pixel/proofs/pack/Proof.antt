@@ -10,7 +10,7 @@ use borrow.Author.Needs.{needs}
 use Rattle.steps.specs.Loop.{pick}
 use Rattle.pixel.specs.declared.Pixel.{Pixel}
 use Rattle.pixel.specs.Units.{mag}
-use Rattle.pixel.specs.Rgbe.{peak, dark, coded, black}
+use Rattle.pixel.specs.Rgbe.{peak, coded, black}
 use Rattle.pixel.proofs.Laws.Digits.{size-low}
 use Rattle.pixel.proofs.Laws.Written.{r-peak, g-peak, b-peak, isCoded, bytes-by-test, coded-between}
 use Rattle.pixel.proofs.pack.Statement.{statement}
