@@ -8,6 +8,8 @@ pub mod Scales
 pub mod Values
 pub mod Digits
 pub mod Scaling
+pub mod Sums
+pub mod Rounding
 pub mod Limits
 pub mod Written
 pub mod Kept

@@ -1,7 +1,7 @@
 // Four bytes to three samples and back.
 ghost use mathlib.Core.Path.{_≡_};
 ghost use mathlib.Core.Bool.{_&&_};
-ghost use Prim.Native.Nat.{ℕ, _-_, _^_, _<_, _≤_, max};
+ghost use Prim.Native.Nat.{ℕ, _/_, _^_, _<_, _≤_, max};
 ghost use lib.Dec.{T, ltb};
 ghost use lib.Ieee.{size};
 ghost use Rattle.pixel.specs.Units.{ofUnits, mag, bright};
@@ -114,17 +114,26 @@ fn digits_of(v: f32) -> u32
     f32::to_bits(v) / 8388608 + 23
 }
 
+// A number below 256, rounded down: plus 2^23, it is rounded to a whole number, which ends the bits of the sum.
+fn round_down(y: f32) -> u8
+    requires { ⌜ T (bright y) ⌝ ∗ ⌜ mag y / 2 ^ 149 < 256 ⌝ }
+    ensures { λ r. ⌜ r ≡ mag y / 2 ^ 149 ⌝ }
+{
+    let sum = y + 8388608.0;
+    let near = f32::to_bits(sum) % 512;
+    if y < sum - 8388608.0 {
+        (near - 1) as u8
+    } else {
+        near as u8
+    }
+}
+
 // A sample times 2^(8-e), rounded down, and 0 for one that is not above 0. `digits` is e + 149.
 fn byte_of(x: f32, digits: u32) -> u8
     requires { ⌜ 43 ≤ digits ⌝ ∗ ⌜ digits ≤ 276 ⌝ ∗ ⌜ mag x < 2 ^ digits ⌝ }
     ensures { λ r. ⌜ r ≡ byteOf digits (mag x) ⌝ }
 {
-    if 0.0 < x {
-        let scale = power(306 - digits);
-        std::num::truncating_f32_to_u64(x * scale) as u8
-    } else {
-        0
-    }
+    round_down(brighter(0.0, x) * power(306 - digits))
 }
 
 // Three samples to four bytes, by the documents; a pixel that is too bright gives zeros.

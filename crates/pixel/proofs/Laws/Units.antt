@@ -1,6 +1,6 @@
 -- The laws of `specs/Units.antt`: a float and its whole number of 2^-149.
-use mathlib.Core.Path.{_≡_, refl, ap, _∙_}
-use mathlib.Core.Bool.{Bool, false}
+use mathlib.Core.Path.{_≡_, refl, sym, ap, _∙_, subst}
+use mathlib.Core.Bool.{Bool, false, not}
 use Prim.Native.Nat.{ℕ, _*_, _/_, _^_, _≤_, _<_}
 use native.Mathlib.Nat.{mul-pos, mul-mul-mul-comm, mul-div-cancel, one-mul}
 use lib.IntN.{pos}
@@ -12,7 +12,7 @@ use lib.Ieee.Fits.{down-pos, round-fits}
 use lib.Ieee.Back.{round-whole}
 use lib.Ieee.Scale.{round-same}
 use Rattle.steps.specs.Loop.{pick}
-use Rattle.pixel.specs.Units.{ofUnits, Exactly, mag}
+use Rattle.pixel.specs.Units.{ofUnits, Exactly, mag, bright}
 
 -- ---- what has few enough digits is exact
 pub units-exact : (q j : ℕ) → q < 2 ^ 24 → q * 2 ^ j < 2 ^ 277 → Exactly (ofUnits (q * 2 ^ j)) (q * 2 ^ j)
@@ -28,6 +28,11 @@ zero-exact = units-exact 0 0 (pow-pos 24) (pow-pos 277)
 pub units-fits : (n : ℕ) → T (fits binary32 (ofUnits n))
 unfolding ofUnits
 units-fits n = round-fits binary32 false n (2 ^ 149)
+
+pub exact-bright : (x : Float) (n : ℕ) → Exactly x n → T (bright x)
+exact-bright nan n h = absurd h
+exact-bright (inf s) n h = absurd h
+exact-bright (fin s m e) n h = subst (λ (t : Bool). T (not t)) (sym (h .0)) tt
 
 -- the whole number of a float that is exactly n is n
 pub mag-is : (x : Float) (n : ℕ) → Exactly x n → mag x ≡ n

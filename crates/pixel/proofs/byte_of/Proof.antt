@@ -1,40 +1,26 @@
 -- `pixel::byte_of` meets its contract: the product is exact or below 1, so its whole part is that of the sample times the power.
-use mathlib.Core.Path.{_≡_, refl, sym, ap, _∙_, subst}
-use mathlib.Core.Bool.{false}
-use Prim.Native.Nat.{ℕ, _-_, _*_, _/_, _^_, _≤_, _<_}
-use native.Mathlib.Nat.{zero-div}
-use native.Mathlib.Omega.{arith}
-use lib.Dec.{T}
-use lib.Arith.{le-zero}
-use lib.Ieee.{Float, binary32, ofBits, mul, fits}
-use lib.Ieee.Exact.{HasValue}
-use lib.Ieee.Bits.{ofBits-fits}
+use mathlib.Core.Path.{_≡_, sym, _∙_, subst}
+use Prim.Native.Nat.{ℕ, _-_, _^_, _<_, zero-le}
+use native.Mathlib.Nat.{max-eq-right}
+use lib.Ieee.{Float, binary32, ofBits, mul}
 use denote.Floats.{passes}
 use borrow.Author.Needs.{needs}
-use Rattle.pixel.specs.Units.{ofUnits, mag, bright}
+use Rattle.pixel.specs.Units.{Exactly, mag}
+use Rattle.pixel.specs.Rgbe.{byteOf}
 use Rattle.pixel.proofs.Laws.Units.{power-exact}
-use Rattle.pixel.proofs.Laws.Samples.{above-bright, not-above}
-use Rattle.pixel.proofs.Laws.Scaling.{Cut, scaled-byte}
+use Rattle.pixel.proofs.Laws.Scaling.{Whole, scaled-whole}
+use Rattle.pixel.proofs.Laws.Written.{byte-lt}
 use Rattle.pixel.proofs.byte_of.Statement.{statement}
 use Rattle.pixel.proofs.byte_of.Tie as tie
 
-zero-bright : T (bright (ofBits binary32 0))
+brighter-requires : tie.Need-brighter-requires
 unfolding ofBits
-zero-bright = tt
+brighter-requires c κs = tt
 
-zero-mag : mag (ofBits binary32 0) ≡ 0
+-- the larger of 0 and the sample counts as the sample
+same : (c : tie.After-brighter) → mag (c .brighter .result) ≡ mag (c .before .args .x)
 unfolding ofBits mag
-zero-mag = refl
-
-scale-value : (s : Float) (d : ℕ) → 43 ≤ d → s ≡ ofUnits (2 ^ (306 - d)) → HasValue s false (2 ^ (306 - d)) (2 ^ 149)
-scale-value s d l e = subst (λ (z : Float). HasValue z false (2 ^ (306 - d)) (2 ^ 149)) (sym e) (power-exact (306 - d) (omega arith))
-
-scaled-here : (c : tie.After-power) → let x = c .before .before .args .x in let n = mag x * 256 / 2 ^ (c .before .before .args .digits) in Cut (mul binary32 x (c .power .result)) n × (n < 256)
-scaled-here c =
-    let s = c .before .before in
-    let x = s .args .x in
-    scaled-byte x (c .power .result) (s .args .digits) (passes _ (s .good .0 .1)) (above-bright (ofBits binary32 0) x zero-bright (c .before .if1 .taken)) (s .pre .0) (s .pre .1 .0) (s .pre .1 .1)
-    (scale-value (c .power .result) (s .args .digits) (s .pre .0) (c .power .ensures))
+same c = c .brighter .ensures .1 ∙ max-eq-right zero-le
 
 sub-power : tie.Need-sub-power
 sub-power c = search needs
@@ -42,29 +28,22 @@ sub-power c = search needs
 power-requires : tie.Need-power-requires
 power-requires c κs = search needs
 
-truncating-f32-to-u64-requires : tie.Need-truncating-f32-to-u64-requires
-truncating-f32-to-u64-requires c κs = let k = scaled-here c .0 in (k .0, k .1)
+here : (c : tie.After-power) → Whole (mul binary32 (c .before .brighter .result) (c .power .result)) (byteOf (c .before .before .args .digits) (mag (c .before .before .args .x)))
+here c =
+    let z = c .before in
+    let N = z .before .args .digits in
+    let scale : Exactly (c .power .result) (2 ^ (306 - N)) = subst (λ (s : Float). Exactly s (2 ^ (306 - N))) (sym (c .power .ensures)) (power-exact (306 - N) (search needs)) in
+    subst (λ (n : ℕ). Whole (mul binary32 (z .brighter .result) (c .power .result)) (byteOf N n)) (same z)
+    (scaled-whole (z .brighter .result) (c .power .result) N (passes _ (z .brighter .ok)) (z .brighter .ensures .0) (z .before .pre .1 .0) (subst (λ (n : ℕ). n < 2 ^ N) (sym (same z)) (z .before .pre .1 .1)) scale)
 
-cast-result : tie.Need-cast-result
-cast-result c = let k = scaled-here (c .before) in record { fits = subst (λ (z : ℕ). z < 256) (sym (c .truncating-f32-to-u64 .ensures ∙ k .0 .2)) (k .1) }
+round-down-requires : tie.Need-round-down-requires
+round-down-requires c κs =
+    let s = c .before .before in
+    (here c .0, subst (λ (n : ℕ). n < 256) (sym (here c .1)) (byte-lt (mag (s .args .x)) (s .args .digits) (s .pre .1 .1)))
 
 returns : tie.Need-returns
-returns c = c .truncating-f32-to-u64 .ensures ∙ scaled-here (c .before) .0 .2
-
-returns-2 : tie.Need-returns-2
-returns-2 c =
-    let s = c .before in
-    let x = s .args .x in
-    let none : mag x ≡ 0 = le-zero (subst (λ (z : ℕ). mag x ≤ z) zero-mag (not-above (ofBits binary32 0) x (ofBits-fits binary32 0) (passes _ (s .good .0 .1)) zero-bright (c .if1 .left))) in
-    sym (ap (λ (z : ℕ). z * 256 / 2 ^ (s .args .digits)) none ∙ zero-div (2 ^ (s .args .digits)))
+returns c = c .round-down .ensures ∙ here (c .before) .1
 
 pub byte-of-spec : {M : Type 1} → statement M
 byte-of-spec =
-    tie.close
-    (tie.spec
-    sub-power
-    power-requires
-    truncating-f32-to-u64-requires
-    cast-result
-    returns
-    returns-2)
+    tie.close (tie.spec brighter-requires sub-power power-requires round-down-requires returns)
