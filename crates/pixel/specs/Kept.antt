@@ -1,4 +1,4 @@
--- Demand 3 at one pixel, over whole numbers of 2^-149.
+-- Demand 3 at one pixel, over whole numbers of 2^-149. The whole number `mag` of a sample that is finite and not negative is its value (`plain-exact`).
 use mathlib.Core.Path.{_≡_}
 use mathlib.Core.Logic.{_⊎_}
 use Prim.Native.Nat.{ℕ, _+_, _-_, _^_, _≤_, _<_}

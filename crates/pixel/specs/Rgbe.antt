@@ -62,11 +62,11 @@ black = record { r = 0; g = 0; b = 0; e = 0 }
 
 -- ---- 'Else e has 2^(e-1) <= v < 2^e; each byte is its sample times 2^(8-e), rounded down, with 0 for a negative one or no number; the last byte is e + 128.'
 
--- A sample times 2^(8-e), rounded down, at the count of binary digits of v in units of 2^-149. That count is e + 149, so 2^(8-e) times 2^-149 is 2^8 / 2^digits.
+-- A sample of n times 2^-149, times 2^(8-e), rounded down. In units of 2^-149 v has e + 149 binary digits, so 2^(8-e) times 2^-149 is 2^8 / 2^digits.
 abbrev pub byteOf : ℕ → ℕ → ℕ
 byteOf digits n = n * 256 / 2 ^ digits
 
--- the four bytes at that count; e + 128 is digits - 21
+-- the four bytes at that count of digits; e + 128 is digits - 21, since 149 - 128 is 21
 abbrev pub coded : ℕ → Pixel → Rgbe
 coded digits p = record { r = byteOf digits (mag (p .r)); g = byteOf digits (mag (p .g)); b = byteOf digits (mag (p .b)); e = digits - 21 }
 

@@ -38,12 +38,24 @@ pub enum Packed {
     TooBright,
 }
 
+// 2^127: a sample from here on is too bright.
+const TOO_BRIGHT: f32 = 170141183460469231731687303715884105728.0;
+
+// The f32 nearest to 1e-32: a pixel whose samples are none above it is black.
+const DARK: f32 = 1e-32;
+
+// 2^23: one in the exponent field of an f32's bits.
+const FIELD: u32 = 8388608;
+
+// 2^23: from here on an f32 is a whole number.
+const WHOLE: f32 = 8388608.0;
+
 // 2^j times 2^-149.
 fn power(j: u32) -> f32
     requires { ⌜ (22 < j) × (j < 277) ⌝ }
     ensures { λ r. ⌜ r ≡ ofUnits (2 ^ j) ⌝ }
 {
-    f32::from_bits((j - 22) * 8388608)
+    f32::from_bits((j - 22) * FIELD)
 }
 
 // What a mantissa of 1 is worth at the exponent byte e, by the crate's rule.
@@ -91,11 +103,7 @@ fn largest(p: Pixel) -> f32
 pub fn is_too_bright(p: Pixel) -> bool
     ensures { λ r. ⌜ r ≡ tooBright p ⌝ }
 {
-    if largest(p) < 170141183460469231731687303715884105728.0 {
-        false
-    } else {
-        true
-    }
+    if largest(p) < TOO_BRIGHT { false } else { true }
 }
 
 // Whether v is above the f32 nearest to 1e-32 and below 2^127.
@@ -103,7 +111,7 @@ fn is_coded(v: f32) -> bool
     requires { ⌜ T (bright v) ⌝ }
     ensures { λ r. ⌜ r ≡ ltb dark (mag v) && ltb (mag v) (2 ^ 276) ⌝ }
 {
-    1e-32 < v && v < 170141183460469231731687303715884105728.0
+    DARK < v && v < TOO_BRIGHT
 }
 
 // e + 149, where 2^(e-1) <= v < 2^e: from the exponent field of the bits.
@@ -111,17 +119,17 @@ fn digits_of(v: f32) -> u32
     requires { ⌜ T (bright v) ⌝ ∗ ⌜ dark < mag v ⌝ ∗ ⌜ mag v < 2 ^ 276 ⌝ }
     ensures { λ r. ⌜ r ≡ size (mag v) ⌝ }
 {
-    f32::to_bits(v) / 8388608 + 23
+    f32::to_bits(v) / FIELD + 23
 }
 
-// A number below 256, rounded down: plus 2^23, it is rounded to a whole number, which ends the bits of the sum.
+// A number below 256, rounded down: plus 2^23 it becomes a whole number next to it, which ends the bits of the sum.
 fn round_down(y: f32) -> u8
     requires { ⌜ T (bright y) ⌝ ∗ ⌜ mag y / 2 ^ 149 < 256 ⌝ }
     ensures { λ r. ⌜ r ≡ mag y / 2 ^ 149 ⌝ }
 {
-    let sum = y + 8388608.0;
+    let sum = y + WHOLE;
     let near = f32::to_bits(sum) % 512;
-    if y < sum - 8388608.0 {
+    if y < sum - WHOLE {
         (near - 1) as u8
     } else {
         near as u8
