@@ -17,7 +17,7 @@ use Rattle.pixel.proofs.Laws.Units.{zero-exact, mag-is}
 use Rattle.pixel.proofs.Laws.Scales.{doc-at, scales-meet}
 use Rattle.pixel.proofs.Laws.Values.{crate-exact}
 use Rattle.pixel.proofs.Laws.Digits.{size-gt}
-use Rattle.pixel.proofs.Laws.Written.{r-peak, g-peak, b-peak, coded-bytes, black-bytes, by-step, byte-lt}
+use Rattle.pixel.proofs.Laws.Bytes.{r-peak, g-peak, b-peak, coded-bytes, black-bytes, by-step, byte-lt}
 
 -- ---- black comes back as zeros
 zero-units : crateUnits 0 0 ≡ 0
@@ -36,13 +36,13 @@ worth m N l h =
     ap (λ (k : ℕ). m * k) (scales-meet (N - 21) (omega arith) (omega arith) ∙ doc-at (N - 21) (omega arith) ∙ ap (λ (j : ℕ). 2 ^ j) (omega arith))
 
 -- what comes back of a sample is its quotient by the step, times the step
+comes-back : (n N : ℕ) → 118 ≤ N → N ≤ 180 → n < 2 ^ N → mag (ofUnits (crateUnits (byteOf N n) (N - 21))) ≡ n / 2 ^ (N - 8) * 2 ^ (N - 8)
+comes-back n N l h u = mag-is _ _ (crate-exact (byteOf N n) (N - 21) (byte-lt n N u)) ∙ worth (byteOf N n) N l h ∙ ap (λ (z : ℕ). z * 2 ^ (N - 8)) (by-step n N (omega arith))
+
 kept : (x : Float) (N : ℕ) → 118 ≤ N → N ≤ 180 → mag x < 2 ^ N → Kept (2 ^ (N - 8)) x (ofUnits (crateUnits (byteOf N (mag x)) (N - 21)))
 kept x N l h u =
-    let n = mag x in
-    let k = N - 8 in
-    let is : mag (ofUnits (crateUnits (byteOf N n) (N - 21))) ≡ n / 2 ^ k * 2 ^ k =
-    mag-is _ _ (crate-exact (byteOf N n) (N - 21) (byte-lt n N u)) ∙ worth (byteOf N n) N l h ∙ ap (λ (z : ℕ). z * 2 ^ k) (by-step n N (omega arith)) in
-    record { at-most = parts-le _ _ _ _ (split n k) is; near = parts-lt _ _ _ _ _ (split n k) (mod-lt n (pow-pos k)) is }
+    let is = comes-back (mag x) N l h u in
+    record { at-most = parts-le _ _ _ _ (split (mag x) (N - 8)) is; near = parts-lt _ _ _ _ _ (split (mag x) (N - 8)) (mod-lt (mag x) (pow-pos (N - 8))) is }
   where
     parts-le : (a b n y : ℕ) → a + b ≡ n → y ≡ a → y ≤ n
     parts-le a b n y h e = omega arith

@@ -8,7 +8,7 @@ use lib.Ieee.{Float, round, binary32, fin, ofBits, lt, fits}
 use lib.Ieee.Bits.{ofBits-fits}
 use Rattle.pixel.specs.Units.{ofUnits, mag, bright}
 use Rattle.pixel.specs.Rgbe.{dark}
-use Rattle.pixel.proofs.Laws.Samples.{lt-mag}
+use Rattle.pixel.proofs.Laws.Order.{lt-mag}
 
 -- ---- `dark` is the f32 nearest to 1e-32: each side is computed to its own literal
 decimal : round binary32 false 1 (10 ^ 32) ≡ fin false 0xcfb11f (negsuc 129)

@@ -15,7 +15,8 @@ use borrow.Author.Tests.{ltb-true, ltb-false}
 use Rattle.pixel.specs.Units.{ofUnits, Exactly, mag, bright}
 use Rattle.pixel.proofs.Laws.Units.{units-exact, power-exact, mag-is, exact-bright}
 use Rattle.pixel.proofs.Laws.Patterns.{bitsOf, bits-are, field-is}
-use Rattle.pixel.proofs.Laws.Samples.{lt-mag, bright-exact, bright-number}
+use Rattle.pixel.proofs.Laws.Samples.{bright-exact, bright-number}
+use Rattle.pixel.proofs.Laws.Order.{lt-mag}
 use Rattle.pixel.proofs.Laws.Digits.{size-is}
 use Rattle.pixel.proofs.Laws.Sums.{add-units, sub-units}
 

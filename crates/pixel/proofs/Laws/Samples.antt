@@ -1,19 +1,18 @@
--- What an f32 sample is as a whole number of 2^-149: its shape, its value, its order.
+-- What an f32 sample is as a whole number of 2^-149: its shape and its value.
 use mathlib.Core.Path.{_≡_, refl, sym, ap, _∙_, subst}
 use mathlib.Core.Bool.{Bool, true, false, not, _&&_}
 use mathlib.Core.Logic.{⊎-elim}
-use Prim.Native.Nat.{ℕ, zero, suc, _+_, _-_, _*_, _/_, _%_, _^_, _≤_, zero-le, _<_}
-use native.Mathlib.Nat.{mul-pos, mul-div-cancel, mul-assoc, mul-right-comm, mul-one, zero-mul, le-of-lt, lt-irrefl, lt-of-lt-of-le, lt-of-mul-lt-mul-right, mul-lt-mul-of-pos-right}
+use Prim.Native.Nat.{ℕ, zero, suc, _+_, _-_, _*_, _/_, _%_, _^_, _≤_, _<_}
+use native.Mathlib.Nat.{mul-div-cancel, mul-assoc, mul-one, zero-mul, lt-irrefl, lt-of-lt-of-le, mul-lt-mul-of-pos-right}
 use native.Mathlib.Omega.{arith}
 use lib.IntN.{ℤ, pos, negsuc}
 use lib.Dec.{T, ltb, leb, eqb, lit<, leb→le, ltb→lt, eqb→eq}
 use lib.Pow.{pow-pos, pow-add, pow-mono, pow-lt, shl-lt}
-use lib.Ieee.{Float, nan, inf, fin, binary32, up, down, lt, fits, isNan}
+use lib.Ieee.{Float, nan, inf, fin, binary32, up, down, fits, isNan}
 use lib.Ieee.Digits.{Equals}
 use lib.Ieee.Fits.{down-pos, and-l, and-r}
-use borrow.Author.Tests.{lt-ltb, le-ltb, ltb-true, ltb-false}
 use Rattle.pixel.specs.Units.{Exactly, mag, bright, plain}
-use Rattle.pixel.proofs.Laws.Numbers.{either, same-test}
+use Rattle.pixel.proofs.Laws.Numbers.{either}
 
 -- ---- what `fits` says of a value that is not zero
 parts : (s : Bool) (m : ℕ) (e : ℤ) → T (fits binary32 (fin s (suc m) e)) → (suc m < 2 ^ 24) × (down e ≤ 2 ^ 149) × (suc m * up e < 2 ^ 128 * down e)
@@ -62,69 +61,6 @@ own-value m e h = (refl, h .2)
 
 pub own-mag : (m : ℕ) (e : ℤ) → (h : Shape m e) → m * up e * 2 ^ 149 / down e ≡ m * 2 ^ (h .0)
 own-mag m e h = ap (λ (z : ℕ). z / down e) (h .2) ∙ mul-div-cancel (m * 2 ^ (h .0)) (down-pos e)
-
--- ---- the order
-mag-bound : (s : Bool) (m : ℕ) (e : ℤ) → T (fits binary32 (fin s m e)) → mag (fin s m e) < 2 ^ 277
-unfolding mag
-mag-bound true m e t = pow-pos 277
-mag-bound false m e t = let h = shape false m e t in subst (λ (n : ℕ). n < 2 ^ 277) (sym (own-mag m e h)) (h .3)
-
--- x / d < y / e, for x * l = p * d and y * l = q * e, is p < q
-pub cross : (x d y e l p q : ℕ) → 0 < d → 0 < e → 0 < l → x * l ≡ p * d → y * l ≡ q * e → ltb (x * e) (y * d) ≡ ltb p q
-cross x d y e l p q D E L h k = same-test (x * e) (y * d) p q there back
-  where
-    left : x * e * l ≡ p * (d * e)
-    left = mul-right-comm x e l ∙ ap (λ (z : ℕ). z * e) h ∙ mul-assoc p d e
-
-    right : y * d * l ≡ q * (d * e)
-    right = mul-right-comm y d l ∙ ap (λ (z : ℕ). z * d) k ∙ mul-right-comm q e d ∙ mul-assoc q d e
-
-    there : x * e < y * d → p < q
-    there r = lt-of-mul-lt-mul-right (d * e) (subst (λ (z : ℕ). z < q * (d * e)) left (subst (λ (z : ℕ). x * e * l < z) right (mul-lt-mul-of-pos-right r L)))
-
-    back : p < q → x * e < y * d
-    back r = lt-of-mul-lt-mul-right l (subst (λ (z : ℕ). z < y * d * l) (sym left) (subst (λ (z : ℕ). p * (d * e) < z) (sym right) (mul-lt-mul-of-pos-right r (mul-pos D E))))
-
-pub lt-mag : (y x : Float) → T (fits binary32 y) → T (fits binary32 x) → T (bright y) → lt y x ≡ ltb (mag y) (mag x)
-unfolding lt mag
-lt-mag nan x p q b = absurd b
-lt-mag (inf true) x p q b = absurd b
-lt-mag (inf false) nan p q b = refl
-lt-mag (inf false) (inf true) p q b = refl
-lt-mag (inf false) (inf false) p q b = refl
-lt-mag (inf false) (fin t n d) p q b = sym (le-ltb (2 ^ 277) (mag (fin t n d)) (le-of-lt (mag-bound t n d q)))
-lt-mag (fin true m e) x p q b = absurd b
-lt-mag (fin false m e) nan p q b = sym (le-ltb (mag (fin false m e)) 0 zero-le)
-lt-mag (fin false m e) (inf true) p q b = sym (le-ltb (mag (fin false m e)) 0 zero-le)
-lt-mag (fin false m e) (inf false) p q b = sym (lt-ltb (mag (fin false m e)) (2 ^ 277) (mag-bound false m e p))
-lt-mag (fin false m e) (fin true n d) p q b = sym (le-ltb (mag (fin false m e)) 0 zero-le)
-lt-mag (fin false m e) (fin false n d) p q b =
-    let h = shape false m e p in
-    let k = shape false n d q in
-    cross (m * up e) (down e) (n * up d) (down d) (2 ^ 149) (m * 2 ^ (h .0)) (n * 2 ^ (k .0)) (down-pos e) (down-pos d) (pow-pos 149) (h .2) (k .2)
-    ∙ ap (λ (z : ℕ). ltb z (n * 2 ^ (k .0))) (sym (own-mag m e h))
-    ∙ ap (λ (z : ℕ). ltb (mag (fin false m e)) z) (sym (own-mag n d k))
-
--- what is above a bright value is bright
-pub above-bright : (y x : Float) → T (bright y) → lt y x ≡ true → T (bright x)
-unfolding lt
-above-bright nan x b h = absurd b
-above-bright (inf true) x b h = absurd b
-above-bright (inf false) nan b h = absurd (subst T (sym h) tt)
-above-bright (inf false) (inf s) b h = absurd (subst T (sym h) tt)
-above-bright (inf false) (fin s m e) b h = absurd (subst T (sym h) tt)
-above-bright (fin true m e) x b h = absurd b
-above-bright (fin false m e) nan b h = absurd (subst T (sym h) tt)
-above-bright (fin false m e) (inf s) b h = subst T (sym h) tt
-above-bright (fin false m e) (fin true n d) b h = absurd (subst T (sym h) tt)
-above-bright (fin false m e) (fin false n d) b h = tt
-
-module _ (y x : Float) (p : T (fits binary32 y)) (q : T (fits binary32 x)) (b : T (bright y)) where
-  pub above : lt y x ≡ true → mag y < mag x
-  above h = ltb-true (mag y) (mag x) (sym (lt-mag y x p q b) ∙ h)
-
-  pub not-above : lt y x ≡ false → mag x ≤ mag y
-  not-above h = ltb-false (mag y) (mag x) (sym (lt-mag y x p q b) ∙ h)
 
 -- a bright sample below 2^277 is finite, and its whole number is its value
 pub bright-exact : (x : Float) → T (fits binary32 x) → T (bright x) → mag x < 2 ^ 277 → Exactly x (mag x)

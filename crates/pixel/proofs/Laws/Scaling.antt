@@ -15,7 +15,7 @@ use lib.Ieee.Nearest.{div-same, closest}
 use lib.Ieee.Scale.{round-same, round-val, grid}
 use Rattle.pixel.specs.Units.{ofUnits, Exactly, mag, bright}
 use Rattle.pixel.specs.Rgbe.{byteOf}
-use Rattle.pixel.proofs.Laws.Numbers.{either, mp}
+use Rattle.pixel.proofs.Laws.Numbers.{either, mul-pow-pow}
 use Rattle.pixel.proofs.Laws.Units.{units-exact, exact-bright, mag-is, mul-values}
 use Rattle.pixel.proofs.Laws.Samples.{shape, own-value, own-mag}
 
@@ -44,32 +44,45 @@ module _ (m i N : ℕ) (M : m < 2 ^ 24) (N≤ : N ≤ 276) where
 
   whole-product : product * 2 ^ 149 ≡ m * 2 ^ (i + 455 - N)
   unfolding product
-  whole-product = ap (λ (z : ℕ). z * 2 ^ 149) (mp m i (306 - N) (i + (306 - N)) refl) ∙ mp m (i + (306 - N)) 149 (i + 455 - N) (omega arith)
+  whole-product = ap (λ (z : ℕ). z * 2 ^ 149) (mul-pow-pow m i (306 - N) (i + (306 - N)) refl) ∙ mul-pow-pow m (i + (306 - N)) 149 (i + 455 - N) (omega arith)
 
-  -- it is at least 2^-149, and exact
-  large : N ≤ i + 157 → m * 2 ^ i < 2 ^ N → Whole (round binary32 false product (2 ^ 298)) (byteOf N (m * 2 ^ i))
-  unfolding ofUnits
-  large h under =
-      let j = i + 157 - N in
-      let room : m * 2 ^ j < 2 ^ 157 =
+  -- it is a multiple of 2^-149, and exact
+  below : N ≤ i + 157 → m * 2 ^ i < 2 ^ N → m * 2 ^ (i + 157 - N) < 2 ^ 157
+  below h under =
       lt-of-mul-lt-mul-right (2 ^ N)
-      (subst (λ (z : ℕ). z < 2 ^ 157 * 2 ^ N) (mp m i 157 (i + 157) refl ∙ sym (mp m j N (i + 157) (omega arith)))
-      (subst (λ (z : ℕ). m * 2 ^ i * 2 ^ 157 < z) (mul-comm (2 ^ N) (2 ^ 157)) (mul-lt-mul-of-pos-right {k = 2 ^ 157} under (pow-pos 157)))) in
-      subst (λ (y : Float). Whole y (byteOf N (m * 2 ^ i))) (sym (round-same binary32 false product (2 ^ 298) (m * 2 ^ j) (2 ^ 149) (pow-pos 298) (pow-pos 149) (whole-product ∙ sym (mp m j 298 (i + 455 - N) (omega arith)))))
-      (whole _ (m * 2 ^ j) (byteOf N (m * 2 ^ i)) (units-exact m j M (lt-of-lt-of-le room (lit≤ {m = 2 ^ 157} {n = 2 ^ 277} tt)))
-      (div-same (m * 2 ^ j) (2 ^ 149) (m * 2 ^ i * 256) (2 ^ N) (pow-pos 149) (pow-pos N) (mp m j N (i + 157) (omega arith) ∙ sym (ap (λ (z : ℕ). z * 2 ^ 149) (mp m i 8 (i + 8) refl) ∙ mp m (i + 8) 149 (i + 157) (omega arith)))))
+      (subst (λ (z : ℕ). z < 2 ^ 157 * 2 ^ N) (mul-pow-pow m i 157 (i + 157) refl ∙ sym (mul-pow-pow m (i + 157 - N) N (i + 157) (omega arith)))
+      (subst (λ (z : ℕ). m * 2 ^ i * 2 ^ 157 < z) (mul-comm (2 ^ N) (2 ^ 157)) (mul-lt-mul-of-pos-right {k = 2 ^ 157} under (pow-pos 157))))
 
-  -- it is less, and the byte is 0
+  rounded : N ≤ i + 157 → round binary32 false product (2 ^ 298) ≡ ofUnits (m * 2 ^ (i + 157 - N))
+  unfolding ofUnits
+  rounded h =
+      round-same binary32 false product (2 ^ 298) (m * 2 ^ (i + 157 - N)) (2 ^ 149) (pow-pos 298) (pow-pos 149)
+      (whole-product ∙ sym (mul-pow-pow m (i + 157 - N) 298 (i + 455 - N) (omega arith)))
+
+  same-part : N ≤ i + 157 → m * 2 ^ (i + 157 - N) / 2 ^ 149 ≡ byteOf N (m * 2 ^ i)
+  same-part h =
+      div-same (m * 2 ^ (i + 157 - N)) (2 ^ 149) (m * 2 ^ i * 256) (2 ^ N) (pow-pos 149) (pow-pos N)
+      (mul-pow-pow m (i + 157 - N) N (i + 157) (omega arith) ∙ sym (ap (λ (z : ℕ). z * 2 ^ 149) (mul-pow-pow m i 8 (i + 8) refl) ∙ mul-pow-pow m (i + 8) 149 (i + 157) (omega arith)))
+
+  large : N ≤ i + 157 → m * 2 ^ i < 2 ^ N → Whole (round binary32 false product (2 ^ 298)) (byteOf N (m * 2 ^ i))
+  large h under =
+      subst (λ (y : Float). Whole y (byteOf N (m * 2 ^ i))) (sym (rounded h))
+      (whole _ (m * 2 ^ (i + 157 - N)) (byteOf N (m * 2 ^ i)) (units-exact m (i + 157 - N) M (lt-of-lt-of-le (below h under) (lit≤ {m = 2 ^ 157} {n = 2 ^ 277} tt))) (same-part h))
+
+  -- it is less than 2^24 times 2^-149, and the byte is 0
+  few-units : i + 157 < N → product * 2 ^ 149 / 2 ^ 298 < 2 ^ 24
+  few-units h =
+      div-lt-iff-lt-mul (pow-pos 298) .1
+      (subst (λ (z : ℕ). z < 2 ^ 24 * 2 ^ 298) (sym whole-product) (lt-of-lt-of-le (shl-lt 24 (i + 455 - N) M) (pow-mono {i = 24 + (i + 455 - N)} {j = 322} (omega arith))))
+
+  no-part : i + 157 < N → byteOf N (m * 2 ^ i) ≡ 0
+  no-part h = div-eq-of-lt (subst (λ (z : ℕ). z < 2 ^ N) (sym (mul-pow-pow m i 8 (i + 8) refl)) (lt-of-lt-of-le (shl-lt 24 (i + 8) M) (pow-mono {i = 24 + (i + 8)} {j = N} (omega arith))))
+
   small : i + 157 < N → Whole (round binary32 false product (2 ^ 298)) (byteOf N (m * 2 ^ i))
   small h =
       let g = grid binary32 product (2 ^ 298) in
-      let under : product * 2 ^ 149 / 2 ^ 298 < 2 ^ 24 =
-      div-lt-iff-lt-mul (pow-pos 298) .1
-      (subst (λ (z : ℕ). z < 2 ^ 24 * 2 ^ 298) (sym whole-product) (lt-of-lt-of-le (shl-lt 24 (i + 455 - N) M) (pow-mono {i = 24 + (i + 455 - N)} {j = 322} (omega arith)))) in
-      let l : g < 2 ^ 149 = tiny product (2 ^ 298) under in
-      let nothing : byteOf N (m * 2 ^ i) ≡ 0 =
-      div-eq-of-lt (subst (λ (z : ℕ). z < 2 ^ N) (sym (mp m i 8 (i + 8) refl)) (lt-of-lt-of-le (shl-lt 24 (i + 8) M) (pow-mono {i = 24 + (i + 8)} {j = N} (omega arith)))) in
-      whole _ g (byteOf N (m * 2 ^ i)) (round-val binary32 product (2 ^ 298) (lt-of-lt-of-le l (lit≤ {m = 2 ^ 149} {n = 2 ^ 277} tt))) (div-eq-of-lt l ∙ sym nothing)
+      let l : g < 2 ^ 149 = tiny product (2 ^ 298) (few-units h) in
+      whole _ g (byteOf N (m * 2 ^ i)) (round-val binary32 product (2 ^ 298) (lt-of-lt-of-le l (lit≤ {m = 2 ^ 149} {n = 2 ^ 277} tt))) (div-eq-of-lt l ∙ sym (no-part h))
 
 -- any sample that is not negative and has no more binary digits than the largest
 pub scaled-whole : (x s : Float) (N : ℕ) → T (fits binary32 x) → T (bright x) → N ≤ 276 → mag x < 2 ^ N → Exactly s (2 ^ (306 - N)) → Whole (mul binary32 x s) (byteOf N (mag x))

@@ -2,7 +2,7 @@
 use mathlib.Core.Path.{sym}
 use native.Mathlib.Nat.{max-eq-left, max-eq-right, le-of-lt}
 use denote.Floats.{passes}
-use Rattle.pixel.proofs.Laws.Samples.{above, not-above, above-bright}
+use Rattle.pixel.proofs.Laws.Order.{above, not-above, above-bright}
 use Rattle.pixel.proofs.brighter.Statement.{statement}
 use Rattle.pixel.proofs.brighter.Tie as tie
 

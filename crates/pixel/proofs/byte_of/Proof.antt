@@ -9,7 +9,7 @@ use Rattle.pixel.specs.Units.{Exactly, mag}
 use Rattle.pixel.specs.Rgbe.{byteOf}
 use Rattle.pixel.proofs.Laws.Units.{power-exact}
 use Rattle.pixel.proofs.Laws.Scaling.{Whole, scaled-whole}
-use Rattle.pixel.proofs.Laws.Written.{byte-lt}
+use Rattle.pixel.proofs.Laws.Bytes.{byte-lt}
 use Rattle.pixel.proofs.byte_of.Statement.{statement}
 use Rattle.pixel.proofs.byte_of.Tie as tie
 

@@ -8,7 +8,7 @@ use denote.Floats.{passes}
 use borrow.Author.Needs.{needs}
 use Rattle.pixel.specs.Rgbe.{tooBright}
 use Rattle.pixel.proofs.Laws.Limits.{below-limit}
-use Rattle.pixel.proofs.Laws.Written.{bright-by-test}
+use Rattle.pixel.proofs.Laws.Bytes.{bright-by-test}
 use Rattle.pixel.proofs.is_too_bright.Statement.{statement}
 use Rattle.pixel.proofs.is_too_bright.Tie as tie
 

@@ -12,7 +12,7 @@ use Rattle.pixel.specs.declared.Pixel.{Pixel}
 use Rattle.pixel.specs.Units.{mag}
 use Rattle.pixel.specs.Rgbe.{peak, coded, black}
 use Rattle.pixel.proofs.Laws.Digits.{size-low}
-use Rattle.pixel.proofs.Laws.Written.{r-peak, g-peak, b-peak, isCoded, bytes-by-test, coded-between}
+use Rattle.pixel.proofs.Laws.Bytes.{r-peak, g-peak, b-peak, isCoded, bytes-by-test, coded-between}
 use Rattle.pixel.proofs.pack.Statement.{statement}
 use Rattle.pixel.proofs.pack.Tie as tie
 
