@@ -10,6 +10,7 @@ pub mod Values
 pub mod Digits
 pub mod Scaling
 pub mod Sums
+pub mod Nearby
 pub mod Rounding
 pub mod Limits
 pub mod Bytes

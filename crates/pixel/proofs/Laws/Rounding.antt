@@ -1,16 +1,13 @@
--- A value below 256, rounded down. Plus 2^23 it is rounded to a whole number next to it, which ends the bits of the sum; one less where that is above the value.
--- The value is g times 2^-149, its whole part q, and 2^23 is 2^172 times 2^-149.
+-- A value below 256, rounded down: plus 2^23 it is rounded to 2^23 + c, whose bits end with c; its whole part is c, or c - 1 where c is above the value.
 use mathlib.Core.Path.{_≡_, sym, ap, _∙_, subst}
 use mathlib.Core.Bool.{true, false, not}
-use Prim.Native.Nat.{ℕ, suc, _+_, _-_, _*_, _/_, _%_, _^_, _≤_, _<_, compare}
-use native.Mathlib.Nat.{add-mul, mul-assoc, mul-div-cancel, add-mul-div-right, lt-of-lt-of-le, le-trans, le-antisymm, mul-le-mul-right, div-lt-iff-lt-mul, le-div-iff-mul-le}
+use Prim.Native.Nat.{ℕ, suc, _+_, _-_, _*_, _/_, _%_, _^_, _≤_, _<_}
+use native.Mathlib.Nat.{add-mul, mul-div-cancel, lt-of-lt-of-le, le-trans, le-antisymm, mul-le-mul-right, div-lt-iff-lt-mul, le-div-iff-mul-le}
 use native.Mathlib.Omega.{arith}
 use lib.Dec.{T, ltb, lit<, lit≤}
 use lib.Pow.{pow-pos, shl-lt}
 use lib.Ieee.{Float, binary32, fits, size, ofBits, toBits, add, sub, lt, isNan}
-use lib.Ieee.Fits.{nearest-le, sub-fits}
-use lib.Ieee.Nearest.{closest, closest-same, nearest-ge}
-use lib.Ieee.Scale.{round-val, grid}
+use lib.Ieee.Fits.{sub-fits}
 use borrow.Author.Tests.{ltb-true, ltb-false}
 use Rattle.pixel.specs.Units.{ofUnits, Exactly, mag, bright}
 use Rattle.pixel.proofs.Laws.Units.{units-exact, power-exact, mag-is, exact-bright}
@@ -19,6 +16,7 @@ use Rattle.pixel.proofs.Laws.Samples.{bright-exact, bright-number}
 use Rattle.pixel.proofs.Laws.Order.{lt-mag}
 use Rattle.pixel.proofs.Laws.Digits.{size-is}
 use Rattle.pixel.proofs.Laws.Sums.{add-units, sub-units}
+use Rattle.pixel.proofs.Laws.Nearby.{Next, next}
 
 -- ---- numbers from 2^172 to below 2^173
 at-least : (c : ℕ) → 2 ^ 172 ≤ (8388608 + c) * 2 ^ 149
@@ -42,54 +40,6 @@ ends c h =
   where
     last : (c : ℕ) → c ≤ 256 → (0 + 149 * 8388608 + (8388608 + c)) % 512 ≡ c
     last c h = omega arith
-
--- ---- the sum is rounded to 2^23 + c, where c is q or q + 1
-record Next (g c : ℕ) : Type 0 where
-  least : g / 2 ^ 149 ≤ c
-  most : c ≤ suc (g / 2 ^ 149)
-  sum : Exactly (ofUnits (g + 2 ^ 172)) ((8388608 + c) * 2 ^ 149)
-
-sum-size : (g : ℕ) → g < 2 ^ 157 → size (g + 2 ^ 172) ≡ 173
-sum-size g h = size-is (g + 2 ^ 172) 173 (more (2 ^ 172) g) (both g (2 ^ 172) (lt-of-lt-of-le h (lit≤ {m = 2 ^ 157} {n = 2 ^ 172} tt)))
-  where
-    more : (a b : ℕ) → a ≤ b + a
-    more a b = omega arith
-
-    both : (a b : ℕ) → a < b → a + b < 2 * b
-    both a b h = omega arith
-
-next : (g : ℕ) → g / 2 ^ 149 < 256 → (c : ℕ) × Next g c
-unfolding ofUnits
-next g h =
-    let a = g + 2 ^ 172 in
-    let w = closest a (2 ^ 149) in
-    let q = g / 2 ^ 149 in
-    let o = compare (a % 2 ^ 149 * 2) (2 ^ 149) in
-    let quotient : a / 2 ^ 149 ≡ q + 8388608 = add-mul-div-right g 8388608 (pow-pos 149) in
-    let low : q + 8388608 ≤ w = subst (λ (z : ℕ). z ≤ w) quotient (nearest-ge (a / 2 ^ 149) o) in
-    let high : w ≤ suc (q + 8388608) = subst (λ (z : ℕ). w ≤ suc z) quotient (nearest-le (a / 2 ^ 149) o) in
-    let dropped : size (a * 2 ^ 149 / 2 ^ 149) - 24 ≡ 149 =
-    ap (λ (z : ℕ). size z - 24) (mul-div-cancel a (pow-pos 149)) ∙ ap (λ (z : ℕ). z - 24) (sum-size g (div-lt-iff-lt-mul (pow-pos 149) .0 h)) in
-    let is : grid binary32 a (2 ^ 149) ≡ w * 2 ^ 149 =
-    ap (λ (d : ℕ). closest (a * 2 ^ 149) (2 ^ 149 * 2 ^ d) * 2 ^ d) dropped
-    ∙ ap (λ (z : ℕ). z * 2 ^ 149) (closest-same (a * 2 ^ 149) (2 ^ 149 * 2 ^ 149) a (2 ^ 149) (pow-pos 298) (pow-pos 149) (mul-assoc a (2 ^ 149) (2 ^ 149))) in
-    let small : grid binary32 a (2 ^ 149) < 2 ^ 277 =
-    subst (λ (z : ℕ). z < 2 ^ 277) (sym is) (lt-of-lt-of-le (shl-lt 24 149 (short q w h high)) (lit≤ {m = 2 ^ 173} {n = 2 ^ 277} tt)) in (
-      w - 8388608,
-      record { least = reached q w low; most = passed q w high; sum = subst (Exactly (ofUnits a)) (is ∙ ap (λ (z : ℕ). z * 2 ^ 149) (whole q w low)) (round-val binary32 a (2 ^ 149) small) },
-    )
-  where
-    short : (q w : ℕ) → q < 256 → w ≤ suc (q + 8388608) → w < 2 ^ 24
-    short q w h l = omega arith
-
-    reached : (q w : ℕ) → q + 8388608 ≤ w → q ≤ w - 8388608
-    reached q w l = omega arith
-
-    passed : (q w : ℕ) → w ≤ suc (q + 8388608) → w - 8388608 ≤ suc q
-    passed q w l = omega arith
-
-    whole : (q w : ℕ) → q + 8388608 ≤ w → w ≡ 8388608 + (w - 8388608)
-    whole q w l = omega arith
 
 -- ---- the code's sum and difference, with the literal 2^23
 abbrev pub sumOf : Float → Float
@@ -123,9 +73,8 @@ module _ (y : Float) (f : T (fits binary32 y)) (b : T (bright y)) (h : mag y / 2
   back-value : Exactly (backOf y) (n .0 * 2 ^ 149)
   back-value =
       let c = n .0 in
-      let is : backOf y ≡ ofUnits (c * 2 ^ 149) =
-      sub-units (sumOf y) (ofBits binary32 0x4b00_0000) ((8388608 + c) * 2 ^ 149) (2 ^ 172) (at-least c) sum-value literal ∙ ap ofUnits (off c) in
-      subst (λ (x : Float). Exactly x (c * 2 ^ 149)) (sym is) (units-exact c 149 (short c few) (lt-of-lt-of-le (shl-lt 24 149 (short c few)) (lit≤ {m = 2 ^ 173} {n = 2 ^ 277} tt)))
+      subst (λ (x : Float). Exactly x (c * 2 ^ 149)) (sym (sub-units (sumOf y) (ofBits binary32 0x4b00_0000) ((8388608 + c) * 2 ^ 149) (2 ^ 172) (at-least c) sum-value literal ∙ ap ofUnits (off c)))
+      (units-exact c 149 (short c few) (lt-of-lt-of-le (shl-lt 24 149 (short c few)) (lit≤ {m = 2 ^ 173} {n = 2 ^ 277} tt)))
     where
       short : (c : ℕ) → c ≤ 256 → c < 2 ^ 24
       short c h = omega arith
