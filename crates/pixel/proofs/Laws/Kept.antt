@@ -1,23 +1,33 @@
 -- Demand 3 at one pixel: each sample comes back at most its value and less than one step below it; a black pixel comes back as zeros.
 use mathlib.Core.Path.{_≡_, refl, sym, ap, _∙_, subst}
+use mathlib.Core.Bool.{true, false}
 use mathlib.Core.Logic.{⊎-elim}
 use Prim.Native.Nat.{ℕ, _+_, _-_, _*_, _/_, _^_, _≤_, _<_, zero-le}
-use native.Mathlib.Nat.{mod-lt, lt-of-le-of-lt, lt-of-lt-of-le}
+use native.Mathlib.Nat.{mod-lt, zero-mul, lt-of-le-of-lt, lt-of-lt-of-le}
 use native.Mathlib.Omega.{arith}
-use lib.Dec.{lit<, lit≤}
+use lib.Dec.{T, eqb→eq, lit<, lit≤}
 use lib.Pow.{pow-pos, split}
-use lib.Ieee.{Float, size}
-use lib.Ieee.Digits.{size-lt, size-le}
+use lib.Ieee.{Float, nan, inf, fin, binary32, up, down, fits, size}
+use lib.Ieee.Digits.{Equals, size-lt, size-le}
 use Rattle.pixel.specs.declared.Pixel.{Pixel}
 use Rattle.pixel.specs.declared.Rgbe.{Rgbe}
-use Rattle.pixel.specs.Units.{ofUnits, mag}
+use Rattle.pixel.specs.Units.{ofUnits, mag, plain}
 use Rattle.pixel.specs.Rgbe.{crateScale, crateUnits, pixelOf, peak, dark, byteOf, bytesOf}
 use Rattle.pixel.specs.Kept.{InRange, stepOf, Kept, KeptAll, zeros}
 use Rattle.pixel.proofs.Laws.Units.{zero-exact, mag-is}
+use Rattle.pixel.proofs.Laws.Samples.{shape, own-mag}
 use Rattle.pixel.proofs.Laws.Scales.{doc-at, scales-meet}
 use Rattle.pixel.proofs.Laws.Values.{crate-exact}
 use Rattle.pixel.proofs.Laws.Digits.{size-gt}
 use Rattle.pixel.proofs.Laws.Bytes.{r-peak, g-peak, b-peak, coded-bytes, black-bytes, by-step, byte-lt}
+
+-- ---- the whole number of any sample that is finite and not negative is its value
+pub plain-exact : (x : Float) → T (fits binary32 x) → T (plain x) → Equals x (mag x) (2 ^ 149)
+unfolding mag
+plain-exact nan p h = absurd h
+plain-exact (inf s) p h = absurd h
+plain-exact (fin true m e) p h = ap (λ (z : ℕ). z * up e * 2 ^ 149) (eqb→eq m 0 h) ∙ simp zero-mul
+plain-exact (fin false m e) p h = let k = shape false m e p in k .2 ∙ ap (λ (z : ℕ). z * down e) (sym (own-mag m e k))
 
 -- ---- black comes back as zeros
 zero-units : crateUnits 0 0 ≡ 0

@@ -6,12 +6,11 @@ use Prim.Native.Nat.{ℕ, zero, suc, _+_, _-_, _*_, _/_, _%_, _^_, _≤_, _<_}
 use native.Mathlib.Nat.{mul-div-cancel, mul-assoc, mul-one, zero-mul, lt-irrefl, lt-of-lt-of-le, mul-lt-mul-of-pos-right}
 use native.Mathlib.Omega.{arith}
 use lib.IntN.{ℤ, pos, negsuc}
-use lib.Dec.{T, ltb, leb, eqb, lit<, leb→le, ltb→lt, eqb→eq}
+use lib.Dec.{T, ltb, leb, eqb, lit<, leb→le, ltb→lt}
 use lib.Pow.{pow-pos, pow-add, pow-mono, pow-lt, shl-lt}
 use lib.Ieee.{Float, nan, inf, fin, binary32, up, down, fits, isNan}
-use lib.Ieee.Digits.{Equals}
 use lib.Ieee.Fits.{down-pos, and-l, and-r}
-use Rattle.pixel.specs.Units.{Exactly, mag, bright, plain}
+use Rattle.pixel.specs.Units.{Exactly, mag, bright}
 use Rattle.pixel.proofs.Laws.Numbers.{either}
 
 -- ---- what `fits` says of a value that is not zero
@@ -76,11 +75,3 @@ unfolding isNan
 bright-number nan b = absurd b
 bright-number (inf s) b = tt
 bright-number (fin s m e) b = tt
-
--- the whole number of any sample that is finite and not negative is its value
-pub plain-exact : (x : Float) → T (fits binary32 x) → T (plain x) → Equals x (mag x) (2 ^ 149)
-unfolding mag
-plain-exact nan p h = absurd h
-plain-exact (inf s) p h = absurd h
-plain-exact (fin true m e) p h = ap (λ (z : ℕ). z * up e * 2 ^ 149) (eqb→eq m 0 h) ∙ simp zero-mul
-plain-exact (fin false m e) p h = let k = shape false m e p in k .2 ∙ ap (λ (z : ℕ). z * down e) (sym (own-mag m e k))

@@ -1,4 +1,4 @@
--- `pixel::brighter` meets its contract.
+-- `pixel::brighter` meets its contract: the order of samples is that of their whole numbers.
 use mathlib.Core.Path.{sym}
 use native.Mathlib.Nat.{max-eq-left, max-eq-right, le-of-lt}
 use denote.Floats.{passes}

@@ -1,4 +1,4 @@
--- `pixel::crate_scale` meets its contract.
+-- `pixel::crate_scale` meets its contract: the power by cases of the exponent byte.
 use mathlib.Core.Path.{_≡_, sym, ap, _∙_}
 use Prim.Native.Nat.{ℕ, _<_, _^_}
 use native.Mathlib.Omega.{arith}

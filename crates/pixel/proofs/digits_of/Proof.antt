@@ -1,4 +1,4 @@
--- `pixel::digits_of` meets its contract.
+-- `pixel::digits_of` meets its contract: the exponent field counts the binary digits.
 use mathlib.Core.Path.{_≡_, sym, subst}
 use Prim.Native.Nat.{ℕ, _+_, _/_, _^_, _≤_, _<_}
 use native.Mathlib.Omega.{arith}

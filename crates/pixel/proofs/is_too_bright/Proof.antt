@@ -1,4 +1,4 @@
--- `pixel::is_too_bright` meets its contract.
+-- `pixel::is_too_bright` meets its contract: the comparison of the code, negated, is `tooBright`.
 use mathlib.Core.Path.{_≡_, sym, ap, _∙_}
 use mathlib.Core.Bool.{not}
 use Prim.Native.Nat.{ℕ, _^_}

@@ -1,4 +1,4 @@
--- `pixel::largest` meets its contract.
+-- `pixel::largest` meets its contract: the larger of two, three times, from 0.
 use mathlib.Core.Path.{_≡_, ap, _∙_}
 use Prim.Native.Nat.{ℕ, max, zero-le}
 use native.Mathlib.Nat.{max-eq-right}

@@ -1,4 +1,4 @@
--- `pixel::pack` meets its contract.
+-- `pixel::pack` meets its contract: where the largest is coded, its count of binary digits keeps every byte in range.
 use mathlib.Core.Path.{_≡_, sym, ap, _∙_, subst}
 use mathlib.Core.Bool.{Bool, true}
 use Prim.Native.Nat.{ℕ, _-_, _^_, _≤_, _<_}

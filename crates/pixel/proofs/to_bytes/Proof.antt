@@ -1,4 +1,4 @@
--- `pixel::to_bytes` meets its contract.
+-- `pixel::to_bytes` meets its contract: the test is the one of `packedOf`.
 use mathlib.Core.Path.{sym, ap, _∙_}
 use mathlib.Core.Bool.{Bool}
 use borrow.Author.Needs.{needs}
