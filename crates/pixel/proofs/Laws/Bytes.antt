@@ -1,0 +1,99 @@
+-- The bytes of a pixel by cases of its largest sample, and one byte as a quotient.
+use mathlib.Core.Path.{_≡_, refl, sym, ap, _∙_, subst}
+use mathlib.Core.Bool.{Bool, true, false, not, _&&_}
+use mathlib.Core.Logic.{⊎-elim, _⊎_, inl, inr}
+use Prim.Native.Nat.{ℕ, _-_, _*_, _/_, _^_, _≤_, _<_, max}
+use native.Mathlib.Nat.{le-max-left, le-max-right, le-trans, le-of-lt, max-eq-left, max-eq-right, mul-assoc, mul-comm, mul-lt-mul-of-pos-right, div-lt-iff-lt-mul}
+use native.Mathlib.Omega.{arith}
+use lib.Dec.{T, ltb, leb, lit<}
+use lib.Pow.{pow-pos}
+use lib.Ieee.{size}
+use lib.Ieee.Nearest.{div-same}
+use borrow.Author.Tests.{le-leb, lt-leb, lt-ltb, le-ltb, ltb-true}
+use Rattle.steps.specs.Loop.{pick}
+use Rattle.pixel.specs.declared.Pixel.{Pixel}
+use Rattle.pixel.specs.Units.{mag}
+use Rattle.pixel.specs.Rgbe.{peak, dark, byteOf, coded, black, tooBright, bytesOf}
+use Rattle.pixel.proofs.Laws.Numbers.{either, pow-pow}
+
+-- ---- no sample is above the largest, and the largest is one of the three
+pub r-peak : (p : Pixel) → mag (p .r) ≤ peak p
+unfolding peak
+r-peak p = le-trans (le-max-left (mag (p .r)) (mag (p .g))) (le-max-left (max (mag (p .r)) (mag (p .g))) (mag (p .b)))
+
+pub g-peak : (p : Pixel) → mag (p .g) ≤ peak p
+unfolding peak
+g-peak p = le-trans (le-max-right (mag (p .r)) (mag (p .g))) (le-max-left (max (mag (p .r)) (mag (p .g))) (mag (p .b)))
+
+pub b-peak : (p : Pixel) → mag (p .b) ≤ peak p
+unfolding peak
+b-peak p = le-max-right (max (mag (p .r)) (mag (p .g))) (mag (p .b))
+
+max-is : (a b : ℕ) → (max a b ≡ a) ⊎ (max a b ≡ b)
+max-is a b = ⊎-elim (λ h. inr (max-eq-right (le-of-lt h))) (λ h. inl (max-eq-left h)) (either a b)
+
+pub peak-is : (p : Pixel) → (peak p ≡ mag (p .r)) ⊎ ((peak p ≡ mag (p .g)) ⊎ (peak p ≡ mag (p .b)))
+unfolding peak
+peak-is p =
+    let m = max (mag (p .r)) (mag (p .g)) in
+    ⊎-elim
+    (λ h. ⊎-elim (λ k. inl (h ∙ k)) (λ k. inr (inl (h ∙ k))) (max-is (mag (p .r)) (mag (p .g))))
+    (λ h. inr (inr h))
+    (max-is m (mag (p .b)))
+
+-- ---- the cases
+leb-ltb : (a b : ℕ) → leb a b ≡ not (ltb b a)
+leb-ltb a b = ⊎-elim (λ h. lt-leb a b h ∙ ap not (sym (lt-ltb b a h))) (λ h. le-leb a b h ∙ ap not (sym (le-ltb b a h))) (either b a)
+
+pub coded-bytes : (p : Pixel) → dark < peak p → peak p < 2 ^ 276 → bytesOf p ≡ coded (size (peak p)) p
+unfolding bytesOf tooBright
+coded-bytes p l h =
+    ap (λ (t : Bool). pick t black (pick (tooBright p) black (coded (size (peak p)) p))) (lt-leb (peak p) dark l)
+    ∙ ap (λ (t : Bool). pick t black (coded (size (peak p)) p)) (lt-leb (2 ^ 276) (peak p) h)
+
+pub black-bytes : (p : Pixel) → peak p ≤ dark → bytesOf p ≡ black
+unfolding bytesOf
+black-bytes p h = ap (λ (t : Bool). pick t black (pick (tooBright p) black (coded (size (peak p)) p))) (le-leb (peak p) dark h)
+
+pub bright-bytes : (p : Pixel) → dark < peak p → 2 ^ 276 ≤ peak p → bytesOf p ≡ black
+unfolding bytesOf tooBright
+bright-bytes p l h =
+    ap (λ (t : Bool). pick t black (pick (tooBright p) black (coded (size (peak p)) p))) (lt-leb (peak p) dark l)
+    ∙ ap (λ (t : Bool). pick t black (coded (size (peak p)) p)) (le-leb (2 ^ 276) (peak p) h)
+
+-- the cases as one test
+abbrev pub isCoded : ℕ → Bool
+isCoded v = ltb dark v && ltb v (2 ^ 276)
+
+pub bytes-by-test : (p : Pixel) → bytesOf p ≡ pick (isCoded (peak p)) (coded (size (peak p)) p) black
+unfolding bytesOf tooBright
+bytes-by-test p =
+    cases (leb (peak p) dark) (ltb dark (peak p)) (leb (2 ^ 276) (peak p)) (ltb (peak p) (2 ^ 276)) (leb-ltb (peak p) dark) (leb-ltb (2 ^ 276) (peak p))
+  where
+    cases : (a b c d : Bool) → a ≡ not b → c ≡ not d → pick a black (pick c black (coded (size (peak p)) p)) ≡ pick (b && d) (coded (size (peak p)) p) black
+    cases a b c d e f = ap (λ (t : Bool). pick t black (pick c black (coded (size (peak p)) p))) e ∙ ap (λ (t : Bool). pick (not b) black (pick t black (coded (size (peak p)) p))) f ∙ rest b d
+      where
+        rest : (b d : Bool) → pick (not b) black (pick (not d) black (coded (size (peak p)) p)) ≡ pick (b && d) (coded (size (peak p)) p) black
+        rest true true = refl
+        rest true false = refl
+        rest false d = refl
+
+pub bright-by-test : (p : Pixel) → tooBright p ≡ not (ltb (peak p) (2 ^ 276))
+unfolding tooBright
+bright-by-test p = leb-ltb (2 ^ 276) (peak p)
+
+pub coded-between : (v : ℕ) → isCoded v ≡ true → (dark < v) × (v < 2 ^ 276)
+coded-between v h =
+    let b = both (ltb dark v) (ltb v (2 ^ 276)) h in
+    (ltb-true dark v (b .0), ltb-true v (2 ^ 276) (b .1))
+  where
+    both : (t u : Bool) → (t && u) ≡ true → (t ≡ true) × (u ≡ true)
+    both true u h = (refl, h)
+    both false u h = (h, absurd (subst T (sym h) tt))
+
+-- ---- a byte is the quotient by the step
+pub by-step : (n N : ℕ) → 8 ≤ N → byteOf N n ≡ n / 2 ^ (N - 8)
+by-step n N h = div-same (n * 256) (2 ^ N) n (2 ^ (N - 8)) (pow-pos N) (pow-pos (N - 8)) (mul-assoc n 256 (2 ^ (N - 8)) ∙ ap (λ (z : ℕ). n * z) (pow-pow 8 (N - 8) N (omega arith)))
+
+pub byte-lt : (n N : ℕ) → n < 2 ^ N → byteOf N n < 256
+byte-lt n N h = div-lt-iff-lt-mul (pow-pos N) .1 (subst (λ (z : ℕ). n * 256 < z) (mul-comm (2 ^ N) 256) (mul-lt-mul-of-pos-right {k = 256} h (lit< tt)))

@@ -1,0 +1,53 @@
+-- No bound of the claims is loose: pixels at the edge of each, computed.
+use mathlib.Core.Path.{_≡_, refl}
+use mathlib.Core.Bool.{false}
+use Prim.Native.Nat.{ℕ, _-_, _^_}
+use lib.IntN.{pos, negsuc}
+use lib.Ieee.{Float, fin, round, size}
+use Rattle.pixel.specs.declared.Pixel.{Pixel}
+use Rattle.pixel.specs.declared.Rgbe.{Rgbe}
+use Rattle.pixel.specs.Units.{ofUnits, mag}
+use Rattle.pixel.specs.Rgbe.{crateShift, crateScale, crateUnits, pixelOf, peak, tooBright, bytesOf}
+
+abbrev zero : Float
+zero = fin false 0 (pos 0)
+
+-- a red pixel, and its four bytes
+abbrev red : Float → Pixel
+red x = record { r = x; g = zero; b = zero }
+
+abbrev bytes : ℕ → ℕ → Rgbe
+bytes m e = record { r = m; g = 0; b = 0; e = e }
+
+-- what comes back of a written pixel
+abbrev back : Pixel → Pixel
+back p = pixelOf crateUnits (bytesOf p)
+
+-- the first f32 above the nearest to 1e-32 has the last byte 22
+pub least-last : bytesOf (red (fin false 0x67d89 (negsuc 124))) ≡ bytes 207 22
+unfolding size mag peak tooBright bytesOf
+least-last = refl
+
+-- the largest f32 below 2^127 has the last byte 255
+pub most-last : bytesOf (red (fin false (2 ^ 24 - 1) (pos 103))) ≡ bytes 255 255
+unfolding size mag peak tooBright bytesOf
+most-last = refl
+
+-- 1 is written with no byte above 128
+pub least-byte : bytesOf (red (fin false 1 (pos 0))) ≡ bytes 128 129
+unfolding size mag peak tooBright bytesOf
+least-byte = refl
+
+-- 2^-33 and 2^31 come back as 1/2
+pub too-dark : back (red (fin false 1 (negsuc 32))) ≡ red (fin false 1 (negsuc 0))
+unfolding round size ofUnits mag crateShift crateScale crateUnits peak tooBright bytesOf
+too-dark = refl
+
+pub too-bright : back (red (fin false 1 (pos 31))) ≡ red (fin false 1 (negsuc 0))
+unfolding round size ofUnits mag crateShift crateScale crateUnits peak tooBright bytesOf
+too-bright = refl
+
+-- beside 1, where a step is 2^-7, the f32 next below 2^-7 comes back as 0
+pub most-lost : back (record { r = fin false 1 (pos 0); g = fin false (2 ^ 24 - 1) (negsuc 30); b = zero }) ≡ red (fin false 1 (pos 0))
+unfolding round size ofUnits mag crateShift crateScale crateUnits peak tooBright bytesOf
+most-lost = refl

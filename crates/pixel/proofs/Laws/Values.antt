@@ -1,0 +1,65 @@
+-- Document 01, 'Rows read', last item: 'All are exact in f32. .. For every m the two agree at E = 0 and at E from 97 to 159; at each other E they differ for every m above 0.'
+use mathlib.Core.Path.{_≡_, sym, ap, _∙_, subst}
+use mathlib.Core.Logic.{⊎-elim, _⊎_, inl, inr}
+use Prim.Native.Nat.{ℕ, _+_, _*_, _^_, _≤_, _<_}
+use native.Mathlib.Nat.{lt-irrefl, lt-of-lt-of-le, mul-lt-mul-of-pos-left, mul-zero}
+use native.Mathlib.Omega.{arith}
+use lib.Dec.{lit≤}
+use lib.Pow.{pow-lt, pow-mono, shl-lt}
+use Rattle.pixel.specs.Units.{ofUnits, Exactly, mag}
+use Rattle.pixel.specs.Rgbe.{crateShift, crateScale, docScale, crateUnits, docUnits, Alike}
+use Rattle.pixel.proofs.Laws.Numbers.{either}
+use Rattle.pixel.proofs.Laws.Units.{units-exact, zero-exact, mag-is}
+use Rattle.pixel.proofs.Laws.Scales.{crate-at, crate-bounds, crate-none, doc-at, doc-none, scales-meet}
+
+-- ---- every sample value is exact in f32
+exact-at : (m scale shift : ℕ) → m < 256 → shift ≤ 268 → scale ≡ 2 ^ shift → Exactly (ofUnits (m * scale)) (m * scale)
+exact-at m scale shift h k is =
+    subst (λ (z : ℕ). Exactly (ofUnits (m * z)) (m * z)) (sym is)
+    (units-exact m shift (lt-of-lt-of-le h (lit≤ {m = 256} {n = 2 ^ 24} tt)) (lt-of-lt-of-le (shl-lt 8 shift h) (pow-mono {i = 8 + shift} {j = 277} (omega arith))))
+
+exact-none : (m scale : ℕ) → scale ≡ 0 → Exactly (ofUnits (m * scale)) (m * scale)
+exact-none m scale is = subst (λ (n : ℕ). Exactly (ofUnits n) n) (sym (ap (λ (z : ℕ). m * z) is ∙ mul-zero m)) zero-exact
+
+pub crate-exact : (m e : ℕ) → m < 256 → Exactly (ofUnits (crateUnits m e)) (crateUnits m e)
+unfolding crateUnits
+crate-exact m e M = ⊎-elim (λ h. exact-at m (crateScale e) (crateShift e) M (omega (arith, crate-bounds e)) (crate-at e h)) (λ h. exact-none m (crateScale e) (crate-none e h)) (either 0 e)
+
+pub doc-exact : (m e : ℕ) → m < 256 → e < 256 → Exactly (ofUnits (docUnits m e)) (docUnits m e)
+unfolding docUnits
+doc-exact m e M E = ⊎-elim (λ h. exact-at m (docScale e) (e + 13) M (omega arith) (doc-at e h)) (λ h. exact-none m (docScale e) (doc-none e h)) (either 0 e)
+
+-- ---- crate value and document value agree at 0 and from 97 to 159
+pub values-agree : (m e : ℕ) → Alike e → crateUnits m e ≡ docUnits m e
+unfolding crateUnits docUnits
+values-agree m e =
+    ⊎-elim
+    (λ z. let l : e ≤ 0 = omega arith in ap (λ (k : ℕ). m * k) (crate-none e l ∙ sym (doc-none e l)))
+    (λ h. ap (λ (k : ℕ). m * k) (scales-meet e (h .0) (h .1)))
+
+pub floats-agree : (m e : ℕ) → Alike e → ofUnits (crateUnits m e) ≡ ofUnits (docUnits m e)
+floats-agree m e h = ap ofUnits (values-agree m e h)
+
+-- ---- and differ at each other exponent byte, for every mantissa above 0
+less : (m a b i j : ℕ) → 0 < m → a ≡ 2 ^ i → b ≡ 2 ^ j → i < j → m * a ≡ m * b → ⊥
+less m a b i j M x y h same =
+    lt-irrefl (m * 2 ^ j) (subst (λ (z : ℕ). z < m * 2 ^ j) (ap (λ (z : ℕ). m * z) (sym x) ∙ same ∙ ap (λ (z : ℕ). m * z) y) (mul-lt-mul-of-pos-left {k = m} (pow-lt {i = i} {j = j} h) M))
+
+outside : (e : ℕ) → (Alike e → ⊥) → (0 < e) × ((e < 97) ⊎ (159 < e))
+outside e apart = (
+  ⊎-elim (λ h. h) (λ h. absurd (apart (inl (omega arith)))) (either 0 e),
+  ⊎-elim (λ h. inl h) (λ h. ⊎-elim (λ k. inr k) (λ k. absurd (apart (inr (h, k)))) (either 159 e)) (either e 97),
+)
+
+pub values-differ : (m e : ℕ) → 0 < m → (Alike e → ⊥) → crateUnits m e ≡ docUnits m e → ⊥
+unfolding crateUnits docUnits
+values-differ m e M apart same =
+    let o = outside e apart in
+    ⊎-elim
+    (λ h. less m (docScale e) (crateScale e) (e + 13) (crateShift e) M (doc-at e (o .0)) (crate-at e (o .0)) (omega (arith, crate-bounds e)) (sym same))
+    (λ h. less m (crateScale e) (docScale e) (crateShift e) (e + 13) M (crate-at e (o .0)) (doc-at e (o .0)) (omega (arith, crate-bounds e)) same)
+    (o .1)
+
+pub floats-differ : (m e : ℕ) → 0 < m → m < 256 → e < 256 → (Alike e → ⊥) → ofUnits (crateUnits m e) ≡ ofUnits (docUnits m e) → ⊥
+floats-differ m e M M' E apart same =
+    values-differ m e M apart (sym (mag-is _ _ (crate-exact m e M')) ∙ ap mag same ∙ mag-is _ _ (doc-exact m e M' E))

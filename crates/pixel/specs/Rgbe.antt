@@ -1,0 +1,89 @@
+-- Four bytes to three samples, and three samples to four bytes, over whole numbers of 2^-149.
+use mathlib.Core.Path.{_≡_}
+use mathlib.Core.Bool.{Bool}
+use mathlib.Core.Logic.{_⊎_}
+use Prim.Native.Nat.{ℕ, _+_, _-_, _*_, _/_, _%_, _^_, _≤_, max}
+use lib.Dec.{ltb, leb, eqb}
+use lib.Ieee.{size}
+use Rattle.steps.specs.Loop.{pick}
+use Rattle.pixel.specs.declared.Pixel.{Pixel}
+use Rattle.pixel.specs.declared.Rgbe.{Rgbe}
+use Rattle.pixel.specs.declared.Packed.{Packed}
+use Rattle.pixel.specs.declared.Packed.the-variants.{Bytes, TooBright}
+use Rattle.pixel.specs.Units.{ofUnits, mag}
+
+-- ---- 'Sample from mantissa m and exponent byte E: 0 if E is 0; else with d = E - 128 and k = |d| mod 32, m·2^(k-8) if d > 0 and m·2^(-k-8) otherwise.'
+
+-- 2^(k-8), or 2^(-k-8), is 2^crateShift times 2^-149: 149 - 8 is 141. |d| is E - 128 if d > 0, and 128 - E otherwise.
+unfoldable pub crateShift : ℕ → ℕ
+crateShift e = pick (ltb 128 e) (141 + (e - 128) % 32) (141 - (128 - e) % 32)
+
+-- what a mantissa of 1 is worth at the exponent byte e, by the crate: 0 if e is 0
+unfoldable pub crateScale : ℕ → ℕ
+crateScale e = pick (eqb e 0) 0 (2 ^ crateShift e)
+
+-- the crate's sample
+unfoldable pub crateUnits : ℕ → ℕ → ℕ
+crateUnits m e = m * crateScale e
+
+-- ---- 'The document value is taken here as m·2^(E-136), and 0 if E is 0.'
+
+-- what a mantissa of 1 is worth by the document: 2^(E-136) is 2^(E+13) times 2^-149
+unfoldable pub docScale : ℕ → ℕ
+docScale e = pick (eqb e 0) 0 (2 ^ (e + 13))
+
+-- the document value
+unfoldable pub docUnits : ℕ → ℕ → ℕ
+docUnits m e = m * docScale e
+
+-- 'For every m the two agree at E = 0 and at E from 97 to 159': those exponent bytes
+abbrev pub Alike : ℕ → Type 0
+Alike e = (e ≡ 0) ⊎ ((97 ≤ e) × (e ≤ 159))
+
+-- the pixel of four bytes, by a rule for one sample
+abbrev pub pixelOf : (ℕ → ℕ → ℕ) → Rgbe → Pixel
+pixelOf units q = record { r = ofUnits (units (q .r) (q .e)); g = ofUnits (units (q .g) (q .e)); b = ofUnits (units (q .b) (q .e)) }
+
+-- ---- 'Pixel: the largest sample that is a number is v.'
+
+-- v; 0 where no sample is a number above 0, since `mag` counts the others as 0
+unfoldable pub peak : Pixel → ℕ
+peak p = max (max (mag (p .r)) (mag (p .g))) (mag (p .b))
+
+-- ---- 'With none, or v not above 1e-32 (the f32 nearest to it), the bytes are 0,0,0,0.'
+
+-- the f32 nearest to 1e-32
+abbrev pub dark : ℕ
+dark = 0xcfb11f * 2 ^ 19
+
+-- 0,0,0,0
+abbrev pub black : Rgbe
+black = record { r = 0; g = 0; b = 0; e = 0 }
+
+-- ---- 'Else e has 2^(e-1) <= v < 2^e; each byte is its sample times 2^(8-e), rounded down, with 0 for a negative one or no number; the last byte is e + 128.'
+
+-- A sample of n times 2^-149, times 2^(8-e), rounded down. In units of 2^-149 v has e + 149 binary digits, so 2^(8-e) times 2^-149 is 2^8 / 2^digits.
+abbrev pub byteOf : ℕ → ℕ → ℕ
+byteOf digits n = n * 256 / 2 ^ digits
+
+-- the four bytes at that count of digits; e + 128 is digits - 21, since 149 - 128 is 21
+abbrev pub coded : ℕ → Pixel → Rgbe
+coded digits p = record { r = byteOf digits (mag (p .r)); g = byteOf digits (mag (p .g)); b = byteOf digits (mag (p .b)); e = digits - 21 }
+
+-- ---- Refusal 12: 'a pixel's largest is 2^127 or more, plus infinity included.'
+
+-- 2^127 is 2^276 times 2^-149
+unfoldable pub tooBright : Pixel → Bool
+tooBright p = leb (2 ^ 276) (peak p)
+
+-- The bytes of a pixel. One that is too bright has none by the paper, and counts as black here so that every pixel has some.
+unfoldable pub bytesOf : Pixel → Rgbe
+bytesOf p = pick (leb (peak p) dark) black (pick (tooBright p) black (coded (size (peak p)) p))
+
+-- the bytes, or that the pixel is too bright
+unfoldable pub packedOf : Pixel → Packed
+packedOf p = pick (tooBright p) TooBright (Bytes (bytesOf p))
+
+-- what every pixel is written as: black, or one of the three is at least 128 and the last is from 22 to 255
+abbrev pub Written : Rgbe → Type 0
+Written q = (q ≡ black) ⊎ (((128 ≤ q .r) ⊎ ((128 ≤ q .g) ⊎ (128 ≤ q .b))) × ((22 ≤ q .e) × (q .e ≤ 255)))
