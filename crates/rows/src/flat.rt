@@ -7,7 +7,7 @@ ghost use Rattle.rows.specs.Flat.{copied, lasts, repeatOf, fourTo, isRep
 
 // The four bytes before the place go to bytes 4 to 7 of the part.
 fn copy_back(store: &mut [u8], start: usize, place: usize)
-    requires { ⌜ (start + 4 < place) × (place ≤ length (now store)) × (start + 8 ≤ length (now store)) ⌝ }
+    requires { ⌜ (start + 4 < place) × (place + 4 ≤ length (now store)) ⌝ }
     ensures { λ _. ⌜ now (store .exit) ≡ copied start place (now (store .entry)) ⌝ }
 {
     let a = store[place - 4];

@@ -1,0 +1,163 @@
+-- The laws of `specs/Flat.antt`: of a repeat, of a pixel, of the flat part.
+use Prim.Native.Nat.{ℕ, _+_, _-_, _*_, _^_, min, _<_, _≤_}
+use native.Mathlib.Omega.{arith}
+use mathlib.Core.List.{List}
+use mathlib.Core.Bool.{Bool, true, false, _&&_, false≢true}
+use mathlib.Core.Path.{_≡_, refl, sym, ap, _∙_}
+use borrow.Author.Tests.{lt-ltb, le-ltb, lt-leb, le-leb, ltb-true, eq-eqb, ne-eqb}
+use lib.ListN.{length, getD, set}
+use lib.Dec.{ltb, eqb}
+use Rattle.steps.specs.Loop.{Turn, more}
+use Rattle.steps.specs.Place.{bytesFrom, spread}
+use Rattle.steps.proofs.Laws.Loop.{Runs, runs-start, runs-more, runs-halt}
+use Rattle.rows.specs.declared.Taken.{Taken}
+use Rattle.rows.specs.declared.Taken.the-variants.{Done, Short}
+use Rattle.rows.specs.Flat.{Flat, Rep, copied, flat, flatOf, flatOut, flatTurn, fourTo, goesOn, isRepeat, lasts, pixelOf, rep, repeatOf, repeatOut, repeatTurn, repeated}
+
+-- ---- A repeat
+
+pub copied-is : (start place : ℕ) (s : List ℕ) → start + 4 < place
+    → set (set (set (set s (start + 4) (getD s (place - 4) 0)) (start + 5) (getD s (place - 3) 0)) (start + 6) (getD s (place - 2) 0)) (start + 7) (getD s (place - 1) 0)
+    ≡ copied start place s
+unfolding copied spread bytesFrom
+copied-is start place s h =
+    let a : start + 5 ≡ start + 4 + 1 = omega arith in
+    let b : start + 6 ≡ start + 4 + 1 + 1 = omega arith in
+    let c : start + 7 ≡ start + 4 + 1 + 1 + 1 = omega arith in
+    let d : place - 3 ≡ place - 4 + 1 = omega arith in
+    let e : place - 2 ≡ place - 4 + 1 + 1 = omega arith in
+    let f : place - 1 ≡ place - 4 + 1 + 1 + 1 = omega arith in
+    rw (a, b, c, d, e, f)
+
+module _ (start place wanted count : ℕ) where
+  pub lasts-wanted : wanted ≡ 0 → false ≡ lasts start place wanted count
+  unfolding lasts
+  lasts-wanted h = rw h refl
+
+  pub lasts-place : (wanted ≡ 0 → ⊥) → place ≤ start + 4 → false ≡ lasts start place wanted count
+  unfolding lasts
+  lasts-place h k =
+      let h′ : 0 < wanted = omega arith in
+      simp (lt-ltb 0 wanted h′, le-ltb (start + 4) place k)
+
+  pub lasts-count : (wanted ≡ 0 → ⊥) → start + 4 < place → ltb 0 count ≡ lasts start place wanted count
+  unfolding lasts
+  lasts-count h k =
+      let h′ : 0 < wanted = omega arith in
+      simp (lt-ltb 0 wanted h′, lt-ltb (start + 4) place k)
+
+and-left : (a b : Bool) → (a && b) ≡ true → a ≡ true
+and-left true b e = refl
+and-left false b e = e
+
+and-right : (a b : Bool) → (a && b) ≡ true → b ≡ true
+and-right true b e = e
+and-right false b e = absurd (false≢true e)
+
+-- the test that the code made, as facts
+module _ (start place wanted count : ℕ) (b : Bool) (e : b ≡ lasts start place wanted count) (t : b ≡ true) where
+  lasting : (0 < wanted) × (start + 4 < place) × (0 < count)
+  unfolding lasts
+  lasting =
+      let f = sym e ∙ t in
+      let g = and-right (ltb 0 wanted) _ f in
+      (ltb-true 0 wanted (and-left (ltb 0 wanted) _ f), ltb-true (start + 4) place (and-left (ltb (start + 4) place) _ g), ltb-true 0 count (and-right (ltb (start + 4) place) _ g))
+
+  pub copy-beyond : start + 4 < place
+  copy-beyond = lasting .1
+
+  pub copy-room : (m n : ℕ) → place + 4 * wanted ≤ m → n ≡ m → place + 4 ≤ n
+  copy-room m n h e = let l = lasting in omega arith
+
+  pub count-room : 1 ≤ count
+  count-room = let l = lasting in omega arith
+
+  pub count-less : count - 1 < count
+  count-less = let l = lasting in omega arith
+
+  pub copy-fits : (n wanted′ : ℕ) → place + 4 * wanted ≤ n → wanted′ ≡ wanted - 4 → place + 4 + 4 * wanted′ ≤ n
+  copy-fits n wanted′ h ew = let l = lasting in omega arith
+
+pub repeat-starts : (start place wanted count : ℕ) (store : List ℕ)
+    → Runs (repeatTurn start) repeatOut count (rep place wanted count store) (repeatOf start place wanted count store)
+unfolding repeatOf
+repeat-starts start place wanted count store = runs-start _ _ _ _ _ (omega arith)
+
+module _ (start place wanted count : ℕ) (store : List ℕ) (a : ℕ × ℕ × List ℕ) (r : Runs (repeatTurn start) repeatOut count (rep place wanted count store) a)
+    (b : Bool) (e : b ≡ lasts start place wanted count) where
+  pub repeat-again : (wanted′ : ℕ) (store′ : List ℕ) → b ≡ true → store′ ≡ copied start place store → wanted′ ≡ wanted - 4
+      → Runs (repeatTurn start) repeatOut (count - 1) (rep (place + 4) wanted′ (count - 1) store′) a
+  unfolding repeatTurn
+  repeat-again wanted′ store′ t es ew = rw (es, ew) (runs-more r (simp (sym e ∙ t)) (count-less start place wanted count b e t))
+
+  pub repeat-end : b ≡ false → (place, wanted, store) ≡ a
+  unfolding repeatTurn
+  repeat-end t = runs-halt r (simp (sym e ∙ t))
+
+-- ---- A pixel
+
+pub repeat-not-0 : (src : List ℕ) (at : ℕ) → (getD src at 0 ≡ 1 → ⊥) → false ≡ isRepeat src at
+unfolding isRepeat
+repeat-not-0 src at h = simp (ne-eqb (getD src at 0) 1 h)
+
+pub repeat-not-1 : (src : List ℕ) (at : ℕ) → getD src at 0 ≡ 1 → (getD src (at + 1) 0 ≡ 1 → ⊥) → false ≡ isRepeat src at
+unfolding isRepeat
+repeat-not-1 src at h k = simp (eq-eqb (getD src at 0) 1 h, ne-eqb (getD src (at + 1) 0) 1 k)
+
+pub repeat-by-2 : (src : List ℕ) (at : ℕ) → getD src at 0 ≡ 1 → getD src (at + 1) 0 ≡ 1 → eqb (getD src (at + 2) 0) 1 ≡ isRepeat src at
+unfolding isRepeat
+repeat-by-2 src at h k = simp (eq-eqb (getD src at 0) 1 h, eq-eqb (getD src (at + 1) 0) 1 k)
+
+pub repeated-is : (src : List ℕ) (start p place wanted shift : ℕ) (store : List ℕ) (n place′ wanted′ : ℕ) (store′ : List ℕ)
+    → n ≡ getD src (p + 3) 0 * 2 ^ shift → (place′, wanted′, store′) ≡ repeatOf start place wanted n store
+    → flat (p + 4) place′ wanted′ (shift + 8) store′ ≡ repeated src start (flat p place wanted shift store)
+unfolding repeated
+repeated-is src start p place wanted shift store n place′ wanted′ store′ en e =
+    ap (λ (z : ℕ × ℕ × List ℕ). flat (p + 4) (z .0) (z .1) (shift + 8) (z .2)) (e ∙ rw en)
+
+four-is : (src : List ℕ) (p : ℕ) → p + 4 ≤ length src → min 4 (length src - p) ≡ 4
+four-is src p h = omega arith
+
+module _ (src : List ℕ) (start p place wanted shift : ℕ) (store store′ : List ℕ) (b : Bool) (h : p + 4 ≤ length src) (es : store′ ≡ spread 1 store place (bytesFrom src p 4)) where
+  pub pixel-ordinary : b ≡ isRepeat src p → b ≡ false
+      → flat (p + 4) (place + 4) (wanted - 1) 0 store′ ≡ pixelOf src start (flat p place wanted shift (fourTo src p store place))
+  unfolding pixelOf fourTo
+  pixel-ordinary e t = rw es (simp (four-is src p h, sym e ∙ t))
+
+  pub pixel-repeat : (x : Flat) → b ≡ isRepeat src p → b ≡ true → x ≡ repeated src start (flat p place wanted shift store′)
+      → x ≡ pixelOf src start (flat p place wanted shift (fourTo src p store place))
+  unfolding pixelOf fourTo
+  pixel-repeat x e t ex = ex ∙ rw es (simp (four-is src p h, sym e ∙ t))
+
+-- ---- The flat part
+
+pub flat-starts : (src : List ℕ) (at : ℕ) (store : List ℕ) (start wanted : ℕ)
+    → Runs (flatTurn src start) flatOut (length src - at) (flat at start wanted 0 store) (flatOf src at store start wanted)
+unfolding flatOf
+flat-starts src at store start wanted = runs-start _ _ _ _ _ (omega arith)
+
+-- the loop, over the values that the code has in hand; n is how many bytes the input has left
+module _ (src : List ℕ) (start p place wanted shift : ℕ) (store : List ℕ) (a : Taken × List ℕ) (r : Runs (flatTurn src start) flatOut (length src - p) (flat p place wanted shift store) a) where
+  pub flat-done : wanted ≤ 0 → (Done p, store) ≡ a
+  unfolding flatTurn goesOn
+  flat-done h = runs-halt r (simp (le-ltb 0 wanted h))
+
+  module _ (h : 0 < wanted) where
+    pub flat-ends : 16 < shift → (Done p, store) ≡ a
+    unfolding flatTurn goesOn
+    flat-ends k = runs-halt r (simp (lt-ltb 0 wanted h, lt-leb shift 16 k))
+
+    module _ (k : shift ≤ 16) (n : ℕ) (en : n ≡ length src - p) where
+      pub flat-short : (store′ : List ℕ) → n < 4 → store′ ≡ spread 1 store place (bytesFrom src p n) → (Short, store′) ≡ a
+      unfolding flatTurn goesOn fourTo
+      flat-short store′ l es =
+          let l′ : length src < p + 4 = omega arith in
+          let m : min 4 (length src - p) ≡ n = omega arith in
+          rw es (runs-halt r (simp (lt-ltb 0 wanted h, le-leb shift 16 k, lt-ltb (length src) (p + 4) l′, m)))
+
+      pub flat-again : (x : Flat) → 4 ≤ n → x ≡ pixelOf src start (flat p place wanted shift (fourTo src p store place))
+          → Runs (flatTurn src start) flatOut (length src - (p + 4)) x a
+      unfolding flatTurn goesOn
+      flat-again x l ex =
+          let l′ : p + 4 ≤ length src = omega arith in
+          rw ex (runs-more r (simp (lt-ltb 0 wanted h, le-leb shift 16 k, le-ltb (length src) (p + 4) l′)) (omega arith))
