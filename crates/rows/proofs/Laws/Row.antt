@@ -1,10 +1,10 @@
 -- The laws of `specs/Row.antt`: of the kind of row, of the four channels, of the row.
-use Prim.Native.Nat.{ℕ, _+_, _-_, _<_, _≤_}
+use Prim.Native.Nat.{ℕ, _+_, _-_, _*_, _<_, _≤_}
 use native.Mathlib.Omega.{arith}
 use mathlib.Core.List.{List}
-use mathlib.Core.Bool.{Bool, true, false}
-use mathlib.Core.Path.{_≡_, sym, ap, _∙_}
-use borrow.Author.Tests.{lt-ltb, le-ltb, le-leb, lt-leb, eq-eqb, ne-eqb}
+use mathlib.Core.Bool.{Bool, true, false, _||_}
+use mathlib.Core.Path.{_≡_, refl, sym, ap, _∙_}
+use borrow.Author.Tests.{lt-ltb, le-ltb, ltb-false, le-leb, lt-leb, eq-eqb, ne-eqb}
 use lib.ListN.{length, getD, set}
 use lib.Dec.{ltb}
 use Rattle.steps.specs.Loop.{pick}
@@ -26,6 +26,25 @@ narrow width h = simp (lt-ltb width 8 h)
 pub not-narrow : (width : ℕ) → 8 ≤ width → ltb 32767 width ≡ isFlatWidth width
 unfolding isFlatWidth
 not-narrow width h = simp (le-ltb width 8 h)
+
+or-left : (a b : Bool) → (a || b) ≡ false → a ≡ false
+or-left true b e = e
+or-left false b e = refl
+
+-- a width that is not flat leaves room for the first four bytes, and for a flat part after them
+module _ (width : ℕ) (b : Bool) (eb : b ≡ isFlatWidth width) (t : b ≡ false) where
+  not-flat : 8 ≤ width
+  unfolding isFlatWidth
+  not-flat = ltb-false width 8 (or-left (ltb width 8) (ltb 32767 width) (sym eb ∙ t))
+
+  pub first-room : (n : ℕ) → 4 * width ≤ n → 4 ≤ n
+  first-room n h = let l = not-flat in omega arith
+
+  pub one-less : 1 ≤ width
+  one-less = let l = not-flat in omega arith
+
+  pub rest-room : (m n : ℕ) → 4 * width ≤ m → n ≡ m → 4 + 4 * (width - 1) ≤ n
+  rest-room m n h e = let l = not-flat in omega arith
 
 pub mark-not : (second third : ℕ) → (second ≡ 2 → ⊥) → false ≡ isMark second third
 unfolding isMark
