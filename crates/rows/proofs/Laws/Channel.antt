@@ -2,14 +2,14 @@
 use Prim.Native.Nat.{ℕ, _+_, _-_, _*_, min, _<_, _≤_}
 use native.Mathlib.Omega.{arith}
 use mathlib.Core.List.{List}
-use mathlib.Core.Bool.{Bool, true, false}
-use mathlib.Core.Path.{_≡_, refl, ap, _∙_}
-use borrow.Author.Tests.{lt-ltb, le-ltb, ltb-true}
+use mathlib.Core.Path.{_≡_, ap, _∙_}
+use borrow.Author.Tests.{lt-ltb, le-ltb, ltb-true, ltb-false}
 use lib.Dec.{ltb}
 use lib.ListN.{length, getD, replicate}
-use Rattle.steps.specs.Loop.{pick, Turn, more, halt, run}
+use Rattle.steps.specs.Loop.{Turn, more, halt, run}
 use Rattle.steps.specs.Place.{bytesFrom, spread}
-use Rattle.steps.proofs.Laws.Loop.{out-free, Runs, runs-start, runs-more, runs-halt}
+use Rattle.steps.proofs.Laws.Loop.{Runs, runs-start, runs-more, runs-halt}
+use Rattle.rows.proofs.Laws.Turns.{by-test, Falls, never-out}
 use Rattle.rows.specs.declared.Taken.{Taken}
 use Rattle.rows.specs.declared.Taken.the-variants.{Done, Short}
 use Rattle.rows.specs.Channel.{Chan, chan, channelOf, channelOut, channelTurn, isRun, spanAt, spanBytes, spanLength, spanOf, spanTaken}
@@ -45,6 +45,24 @@ span-onward src channel c n x h = omega arith
 
 -- ---- A turn
 
+pub at-onward : (src : List ℕ) (channel width : ℕ) (x : Chan) → x .at < length src
+    → (x .at < spanAt src channel width x .at) × (spanAt src channel width x .at ≤ length src)
+unfolding spanAt
+at-onward src channel width x h = span-onward src channel _ _ x h
+
+-- case by case
+pub channel-cases : (src : List ℕ) (channel width : ℕ) (x : Chan) (L : Turn Chan (Taken × List ℕ) → Type 0)
+    → (x .done < width → x .at < length src → L (more (spanAt src channel width x)))
+    → (x .done < width → length src ≤ x .at → L (halt (Short, x .store)))
+    → (width ≤ x .done → L (halt (Done (x .at), x .store))) → L (channelTurn src channel width x)
+unfolding channelTurn
+channel-cases src channel width x L span short done =
+    by-test L (ltb (x .done) width)
+    (λ t. by-test L (ltb (x .at) (length src))
+    (λ u. span (ltb-true (x .done) width t) (ltb-true (x .at) (length src) u))
+    (λ u. short (ltb-true (x .done) width t) (ltb-false (x .at) (length src) u)))
+    (λ t. done (ltb-false (x .done) width t))
+
 module _ (src : List ℕ) (channel width : ℕ) (x : Chan) where
   pub turn-done : width ≤ x .done → channelTurn src channel width x ≡ halt (Done (x .at), x .store)
   unfolding channelTurn
@@ -78,23 +96,12 @@ pub channel-starts : (src : List ℕ) (at : ℕ) (store : List ℕ) (channel wid
 unfolding channelOf
 channel-starts src at store channel width = runs-start _ _ _ _ _ (omega arith)
 
--- a turn that goes on takes a byte
-channel-falls : (src : List ℕ) (channel width : ℕ) (x y : Chan) → channelTurn src channel width x ≡ more y → length src - y .at < length src - x .at
-unfolding channelTurn spanAt
-channel-falls src channel width x y = go (ltb (x .done) width) (ltb (x .at) (length src)) refl
-  where
-    go : (b c : Bool) → ltb (x .at) (length src) ≡ c
-        → pick {A = Turn Chan (Taken × List ℕ)} b (pick c (more (spanAt src channel width x)) (halt (Short, x .store))) (halt (Done (x .at), x .store)) ≡ more y → length src - y .at < length src - x .at
-    go true true t e =
-        let f : spanAt src channel width x ≡ y = cc in
-        let c = getD src (x .at) 0 in
-        omega (arith, span-onward src channel c (min (spanLength c) (width - x .done)) x (ltb-true (x .at) (length src) t), ap (λ (z : Chan). z .at) f)
-    go true false t e = let z : _≡_ {A = ℕ} 0 1 = cc in omega arith
-    go false c t e = let z : _≡_ {A = ℕ} 0 1 = cc in omega arith
-
--- the turns never run out: what `channelOut` says is nowhere the answer
+-- the turns never run out, since each that goes on takes a byte: what `channelOut` says is nowhere the answer
 pub channel-never-out : (src : List ℕ) (at : ℕ) (store : List ℕ) (channel width : ℕ) (out : Chan → Taken × List ℕ)
     → channelOf src at store channel width ≡ run (channelTurn src channel width) out (length src + 1) (chan at 0 store)
 unfolding channelOf
 channel-never-out src at store channel width out =
-    out-free (channelTurn src channel width) channelOut out (λ (x : Chan). length src - x .at) (channel-falls src channel width) (length src + 1) (chan at 0 store) (omega arith)
+    let μ : Chan → ℕ = λ x. length src - x .at in
+    never-out (channelTurn src channel width) channelOut out μ
+    (λ x. channel-cases src channel width x (Falls μ x) (λ h k. omega (arith, at-onward src channel width x k)) (λ h k. tt) (λ h. tt))
+    _ _ (omega arith)

@@ -4,12 +4,13 @@ use native.Mathlib.Omega.{arith}
 use mathlib.Core.List.{List}
 use mathlib.Core.Bool.{Bool, true, false, _&&_, false≢true}
 use mathlib.Core.Path.{_≡_, refl, sym, ap, _∙_}
-use borrow.Author.Tests.{lt-ltb, le-ltb, lt-leb, le-leb, ltb-true, eq-eqb, ne-eqb}
+use borrow.Author.Tests.{lt-ltb, le-ltb, lt-leb, le-leb, ltb-true, ltb-false, eq-eqb, ne-eqb}
 use lib.ListN.{length, getD, set}
-use lib.Dec.{ltb, eqb}
-use Rattle.steps.specs.Loop.{Turn, more}
+use lib.Dec.{ltb, leb, eqb}
+use Rattle.steps.specs.Loop.{Turn, more, halt, run}
 use Rattle.steps.specs.Place.{bytesFrom, spread}
 use Rattle.steps.proofs.Laws.Loop.{Runs, runs-start, runs-more, runs-halt}
+use Rattle.rows.proofs.Laws.Turns.{by-test, Falls, never-out}
 use Rattle.rows.specs.declared.Taken.{Taken}
 use Rattle.rows.specs.declared.Taken.the-variants.{Done, Short}
 use Rattle.rows.specs.Flat.{Flat, Rep, copied, flat, flatOf, flatOut, flatTurn, fourTo, goesOn, isRepeat, lasts, pixelOf, rep, repeatOf, repeatOut, repeatTurn, repeated}
@@ -94,6 +95,22 @@ module _ (start place wanted count : ℕ) (store : List ℕ) (a : ℕ × ℕ × 
   unfolding repeatTurn
   repeat-end t = runs-halt r (simp (sym e ∙ t))
 
+-- a turn, case by case
+pub repeat-cases : (start : ℕ) (x : Rep) (L : Turn Rep (ℕ × ℕ × List ℕ) → Type 0)
+    → ((0 < x .wanted) × (start + 4 < x .place) × (0 < x .count)
+    → L (more (rep (x .place + 4) (x .wanted - 4) (x .count - 1) (copied start (x .place) (x .store)))))
+    → L (halt (x .place, x .wanted, x .store)) → L (repeatTurn start x)
+unfolding repeatTurn
+repeat-cases start x L copy end = by-test L (lasts start (x .place) (x .wanted) (x .count)) (λ t. copy (lasting start (x .place) (x .wanted) (x .count) true (sym t) refl)) (λ t. end)
+
+-- the turns never run out, since each that goes on takes one off the count
+pub repeat-never-out : (start place wanted count : ℕ) (store : List ℕ) (out : Rep → ℕ × ℕ × List ℕ)
+    → repeatOf start place wanted count store ≡ run (repeatTurn start) out (count + 1) (rep place wanted count store)
+unfolding repeatOf
+repeat-never-out start place wanted count store out =
+    let μ : Rep → ℕ = λ x. x .count in
+    never-out (repeatTurn start) repeatOut out μ (λ x. repeat-cases start x (Falls μ x) (λ h. omega arith) tt) _ _ (omega arith)
+
 -- ---- A pixel
 
 pub repeat-not-0 : (src : List ℕ) (at : ℕ) → (getD src at 0 ≡ 1 → ⊥) → false ≡ isRepeat src at
@@ -161,3 +178,28 @@ module _ (src : List ℕ) (start p place wanted shift : ℕ) (store : List ℕ) 
       flat-again x l ex =
           let l′ : p + 4 ≤ length src = omega arith in
           rw ex (runs-more r (simp (lt-ltb 0 wanted h, le-leb shift 16 k, le-ltb (length src) (p + 4) l′)) (omega arith))
+
+-- a turn, case by case
+pub flat-cases : (src : List ℕ) (start : ℕ) (x : Flat) (L : Turn Flat (Taken × List ℕ) → Type 0)
+    → (0 < x .wanted → x .at + 4 ≤ length src → L (more (pixelOf src start (flat (x .at) (x .place) (x .wanted) (x .shift) (fourTo src (x .at) (x .store) (x .place))))))
+    → (0 < x .wanted → L (halt (Short, fourTo src (x .at) (x .store) (x .place))))
+    → L (halt (Done (x .at), x .store)) → L (flatTurn src start x)
+unfolding flatTurn goesOn
+flat-cases src start x L pixel short done =
+    by-test L (ltb 0 (x .wanted) && leb (x .shift) 16)
+    (λ t. let h = ltb-true 0 (x .wanted) (and-left (ltb 0 (x .wanted)) _ t) in
+    by-test L (ltb (length src) (x .at + 4)) (λ u. short h) (λ u. pixel h (ltb-false (length src) (x .at + 4) u)))
+    (λ t. done)
+
+-- a pixel takes four bytes
+pub pixel-at : (src : List ℕ) (start : ℕ) (x : Flat) → pixelOf src start x .at ≡ x .at + 4
+unfolding pixelOf repeated
+pixel-at src start x = by-test (λ (y : Flat). y .at ≡ x .at + 4) (isRepeat src (x .at)) (λ t. refl) (λ t. refl)
+
+-- the turns never run out, since each that goes on takes four bytes
+pub flat-never-out : (src : List ℕ) (at : ℕ) (store : List ℕ) (start wanted : ℕ) (out : Flat → Taken × List ℕ)
+    → flatOf src at store start wanted ≡ run (flatTurn src start) out (length src + 1) (flat at start wanted 0 store)
+unfolding flatOf
+flat-never-out src at store start wanted out =
+    let μ : Flat → ℕ = λ x. length src - x .at in
+    never-out (flatTurn src start) flatOut out μ (λ x. flat-cases src start x (Falls μ x) (λ h k. omega (arith, pixel-at src start (flat (x .at) (x .place) (x .wanted) (x .shift) (fourTo src (x .at) (x .store) (x .place))))) (λ h. tt) tt) _ _ (omega arith)
