@@ -5,4 +5,5 @@ pub mod Fourth
 pub mod Channel
 pub mod Flat
 pub mod Row
--- pub mod Bounds
+pub mod Bounds
+pub mod Examples

@@ -34,7 +34,7 @@ or-left false b e = refl
 
 -- a width that is not flat leaves room for the first four bytes, and for a flat part after them
 module _ (width : ℕ) (b : Bool) (eb : b ≡ isFlatWidth width) (t : b ≡ false) where
-  not-flat : 8 ≤ width
+  pub not-flat : 8 ≤ width
   unfolding isFlatWidth
   not-flat = ltb-false width 8 (or-left (ltb width 8) (ltb 32767 width) (sym eb ∙ t))
 
