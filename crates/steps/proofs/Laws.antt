@@ -1,3 +1,5 @@
 -- The laws of the definitions in `specs/`, a file for each of its files.
 pub mod Loop
 pub mod Place
+pub mod Answer
+pub mod Amount

@@ -2,3 +2,4 @@
 pub mod Loop
 pub mod Place
 pub mod Answer
+pub mod Amount

@@ -1,4 +1,5 @@
 // The small helpers that every crate above uses.
+pub mod amount;
 pub mod refusal;
 
 ghost use mathlib.Core.Path.{_≡_};

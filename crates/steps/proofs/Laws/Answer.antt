@@ -1,0 +1,42 @@
+-- The laws of the checks that come first: where all pass the rest is answered, and else the first that fails.
+use Prim.Native.Nat.{ℕ}
+use mathlib.Core.Bool.{Bool, true, false}
+use mathlib.Core.List.{List, [], _∷_, _++_}
+use mathlib.Core.Path.{_≡_, refl}
+use native.Mathlib.Omega.{arith}
+use Rattle.steps.specs.Answer.{Answer, done, refused, refuse, Check, check, checked}
+
+-- every check passes
+abbrev pub Passed : List Check → Type 0
+Passed [] = Unit {0}
+Passed (check number fails ∷ checks) = (fails ≡ false) × Passed checks
+
+differ : {A : Type 0} (a : A) (n p : ℕ) → done a ≡ refused n p → ⊥
+differ a n p e = let z : _≡_ {A = ℕ} 0 1 = cc in omega arith
+
+-- what is done has passed every check
+pub passed : {A : Type 0} (checks : List Check) (a x : A) → checked refuse checks (done a) ≡ done x → Passed checks × (a ≡ x)
+passed [] a x e = (tt, cc)
+passed (check number true ∷ checks) a x e = absurd (let z : _≡_ {A = ℕ} 0 1 = cc in omega arith)
+passed (check number false ∷ checks) a x e = let rest = passed checks a x e in ((refl, rest .0), rest .1)
+
+pub pass : {A : Type 0} (refusing : ℕ → A) (checks : List Check) (rest : A) → Passed checks → checked refusing checks rest ≡ rest
+pass refusing [] rest p = refl
+pass refusing (check number true ∷ checks) rest p = absurd (let z : _≡_ {A = Bool} true false = p .0 in never z)
+  where
+    never : _≡_ {A = Bool} true false → ⊥
+    never e = let z : _≡_ {A = ℕ} 0 1 = cc in omega arith
+pass refusing (check number false ∷ checks) rest p = pass refusing checks rest (p .1)
+
+-- what is refused is refused by the same check, whatever the call
+pub failed : {A B : Type 0} (refusing : ℕ → B) (checks : List Check) (a : A) (rest : B) (n p : ℕ) → checked refuse checks (done a) ≡ refused n p
+    → (p ≡ 0) × (checked refusing checks rest ≡ refusing n)
+failed refusing [] a rest n p e = absurd (differ a n p e)
+failed refusing (check number true ∷ checks) a rest n p e = let is : number ≡ n = cc in (cc, rw is)
+failed refusing (check number false ∷ checks) a rest n p e = failed refusing checks a rest n p e
+
+-- checks after checks
+pub checked-append : {A : Type 0} (refusing : ℕ → A) (cs ds : List Check) (rest : A) → checked refusing (cs ++ ds) rest ≡ checked refusing cs (checked refusing ds rest)
+checked-append refusing [] ds rest = refl
+checked-append refusing (check number true ∷ cs) ds rest = refl
+checked-append refusing (check number false ∷ cs) ds rest = checked-append refusing cs ds rest
