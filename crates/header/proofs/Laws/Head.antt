@@ -2,11 +2,12 @@
 use Prim.Native.Nat.{ℕ, _<_, _≤_, min}
 use mathlib.Core.Bool.{Bool, true, false, _&&_}
 use mathlib.Core.List.{List}
-use mathlib.Core.Path.{_≡_, refl, sym, ap, _∙_}
+use mathlib.Core.Path.{_≡_, refl, sym, ap, subst, _∙_}
 use native.Mathlib.Omega.{arith}
-use borrow.Author.Tests.{lt-ltb, le-ltb}
+use borrow.Author.Tests.{lt-ltb, le-ltb, ltb-false}
 use Rattle.steps.specs.Loop.{pick}
 use Rattle.steps.specs.Answer.{Answer, refuse, done}
+use Rattle.steps.proofs.Laws.Answer.{passed}
 use Rattle.header.specs.Lines.{lineFeed, space, past, between, firstLine, isFirst, linesEnd}
 use Rattle.header.specs.Fields.{Fields, trim, fieldsAt, axesOf}
 use Rattle.header.specs.Sizes.{sizeOf, isSize, sizeAnswer}
@@ -130,3 +131,15 @@ by-paper (Refused r) (Refused s) e = let n : r .number ≡ s .number = cc in let
 
 pub header-once : (bytes : List ℕ) (widest highest : ℕ) (a b : HeadAnswer) → HeaderPromise bytes widest highest a → HeaderPromise bytes widest highest b → a ≡ b
 header-once bytes widest highest a b p q = by-paper a b (p ∙ sym q)
+
+-- ---- A header that is read is within the limits
+
+pub header-limits : (bytes : List ℕ) (widest highest : ℕ) (head : Head) → headerOf bytes widest highest ≡ done head → (head .width ≤ 65535) × (head .height ≤ 65535)
+unfolding headerOf headChecks headOf
+header-limits bytes widest highest head e =
+    let f = fieldsOf bytes in
+    let axes = axesOf (f .first) (f .third) in
+    let both = passed (headChecks bytes widest highest) (headOf f) head e in
+    let high : sizeOf (heightField axes f) ≤ min highest 65535 = ltb-false _ _ (both .0 .1 .1 .1 .0) in
+    let wide : sizeOf (widthField axes f) ≤ min widest 65535 = ltb-false _ _ (both .0 .1 .1 .1 .1 .0) in
+    (subst (λ (x : Head). x .width ≤ 65535) (both .1) (omega arith), subst (λ (x : Head). x .height ≤ 65535) (both .1) (omega arith))

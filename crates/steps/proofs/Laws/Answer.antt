@@ -4,7 +4,7 @@ use mathlib.Core.Bool.{Bool, true, false}
 use mathlib.Core.List.{List, [], _∷_, _++_}
 use mathlib.Core.Path.{_≡_, refl}
 use native.Mathlib.Omega.{arith}
-use Rattle.steps.specs.Answer.{Answer, done, refused, refuse, Check, check, checked}
+use Rattle.steps.specs.Answer.{done, refused, refuse, Check, check, checked}
 
 -- every check passes
 abbrev pub Passed : List Check → Type 0

@@ -1,0 +1,24 @@
+-- The samples of a row, by a rule for one pixel.
+use Prim.Native.Nat.{ℕ, zero, suc, _+_}
+use mathlib.Core.List.{List, [], _∷_}
+use lib.ListN.{getD}
+use lib.Ieee.{Float}
+use Rattle.pixel.specs.declared.Pixel.{Pixel}
+use Rattle.pixel.specs.declared.Rgbe.{Rgbe}
+
+-- what four bytes stand for
+abbrev pub SampleRule : Type 0
+SampleRule = Rgbe → Pixel
+
+-- the four bytes of the row store from byte i on
+abbrev pub rgbeAt : List ℕ → ℕ → Rgbe
+rgbeAt store i = record { r = getD store i 0; g = getD store (i + 1) 0; b = getD store (i + 2) 0; e = getD store (i + 3) 0 }
+
+-- a pixel's three samples, and then others
+abbrev pub three : Pixel → List Float → List Float
+three p rest = p .r ∷ p .g ∷ p .b ∷ rest
+
+-- the samples of n pixels of the row store, from byte i on
+unfoldable pub samplesFrom : SampleRule → List ℕ → ℕ → ℕ → List Float
+samplesFrom rule store i zero = []
+samplesFrom rule store i (suc n) = three (rule (rgbeAt store i)) (samplesFrom rule store (i + 4) n)

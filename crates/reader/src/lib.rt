@@ -1,0 +1,113 @@
+// The whole reader.
+mod samples;
+
+use header::Head;
+use header::HeadAnswer;
+use rows::Taken;
+use steps::amount;
+use steps::amount::Amount;
+use steps::refusal;
+use steps::refusal::Refusal;
+ghost use mathlib.Core.Path.{_≡_};
+ghost use Prim.Native.Nat.{_*_, _≤_};
+ghost use lib.ListN.{length};
+ghost use Rattle.steps.specs.Answer.{refuse};
+ghost use Rattle.steps.specs.Amount.{amountOf};
+ghost use Rattle.reader.specs.Frame.{rowsOf};
+ghost use Rattle.reader.specs.Read.{crateRow, cratePixel, paperOf, framed, frameAnswer, ReadPromise};
+
+// What reading a file answers: the sizes and the count of bytes taken, or a refusal.
+pub enum ReadAnswer {
+    Done(Head),
+    Refused(Refusal),
+}
+
+// The rows from head.taken on, each to its place in the output.
+fn read_rows(bytes: &[u8], head: Head, out: &mut [f32], store: &mut [u8]) -> ReadAnswer
+    requires { ⌜ (4 * head .width ≤ length (now store)) × (head .height * (3 * head .width) ≤ length (now out)) ⌝ }
+    ensures { λ r. ⌜ (paperOf r, now (out .exit), now (store .exit)) ≡ framed head (rowsOf crateRow cratePixel (now (bytes .entry)) (head .width) (head .height) (head .taken) (now (out .entry)) (now (store .entry))) ⌝ }
+{
+    let width = head.width;
+    let height = head.height;
+    let n = 3 * width;
+    let mut p = head.taken;
+    let mut o = 0;
+    let mut k = 0;
+    while k < height {
+        let t = rows::read_row(bytes, p, store, width);
+        match t {
+            Taken::Done { next } => {
+                p = next;
+            }
+            Taken::Short => {
+                return ReadAnswer::Refused(Refusal {
+                    number: refusal::BYTES_END,
+                    place: k,
+                });
+            }
+        }
+        samples::put_samples(store, out, o, width);
+        o += n;
+        k += 1;
+    }
+    ReadAnswer::Done(Head {
+        width,
+        height,
+        taken: p,
+    })
+}
+
+// A refusal that names no place.
+fn refused(number: u8) -> ReadAnswer
+    ensures { λ r. ⌜ paperOf r ≡ refuse number ⌝ }
+{
+    ReadAnswer::Refused(Refusal { number, place: 0 })
+}
+
+// The checks 6 to 8, and then the rows.
+fn read_frame(bytes: &[u8], head: Head, out: &mut [f32], store: &mut [u8]) -> ReadAnswer
+    requires { ⌜ (head .width ≤ 65535) × (head .height ≤ 65535) ⌝ }
+    ensures { λ r. ⌜ (paperOf r, now (out .exit), now (store .exit)) ≡ frameAnswer (now (bytes .entry)) head (now (out .entry)) (now (store .entry)) ⌝ }
+{
+    let width = head.width;
+    let height = head.height;
+    if out.len() < height * (3 * width) {
+        return refused(refusal::SHORT_OUTPUT);
+    }
+    if width == 0 {
+        return refused(refusal::NO_WIDTH);
+    }
+    if store.len() < 4 * width {
+        return refused(refusal::SHORT_STORE);
+    }
+    steps::clear(store, 4 * width);
+    read_rows(bytes, head, out, store)
+}
+
+// A file's pixels into the output, by way of the row store.
+pub fn read(
+    bytes: &[u8],
+    widest: usize,
+    highest: usize,
+    out: &mut [f32],
+    store: &mut [u8],
+) -> ReadAnswer
+    ensures { λ r. ⌜ ReadPromise (now (bytes .entry)) widest highest (now (out .entry)) (now (store .entry)) r (now (out .exit)) (now (store .exit)) ⌝ }
+{
+    let h = header::read(bytes, widest, highest);
+    match h {
+        HeadAnswer::Read(head) => read_frame(bytes, head, out, store),
+        HeadAnswer::Refused(refusal) => ReadAnswer::Refused(refusal),
+    }
+}
+
+// How many samples a frame has.
+pub fn output_buffer_size(width: usize, height: usize) -> Amount
+    ensures { λ r. ⌜ r ≡ amountOf (width * height * 3) ⌝ }
+{
+    let area = amount::product(width, height);
+    match area {
+        Amount::Number(n) => amount::product(n, 3),
+        Amount::None => Amount::None,
+    }
+}
