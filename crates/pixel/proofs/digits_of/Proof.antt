@@ -1,9 +1,9 @@
 -- `pixel::digits_of` meets its contract: the exponent field counts the binary digits.
-use mathlib.Core.Path.{_≡_, sym, subst}
-use Prim.Native.Nat.{ℕ, _+_, _/_, _^_, _≤_, _<_}
+use mathlib.Core.Path.{_≡_}
+use Prim.Native.Nat.{ℕ, _+_, _/_, _^_, _<_}
 use native.Mathlib.Omega.{arith}
 use lib.Ieee.{binary32, toBits, size}
-use lib.Ieee.Digits.{size-le}
+use lib.Ieee.Bits.{toBits-lt}
 use denote.Floats.{passes}
 use Rattle.pixel.specs.Units.{mag}
 use Rattle.pixel.proofs.Laws.Samples.{bright-number}
@@ -18,10 +18,10 @@ float-to-bits-result : tie.Need-float-to-bits-result
 float-to-bits-result c = bright-number (c .args .v) (c .pre .0)
 
 add-result : tie.Need-add-result
-add-result c = record { fits = subst (λ (z : ℕ). z < 2 ^ 32) (sym (digits-here c)) (short (size (mag (c .args .v))) (size-le (mag (c .args .v)) 276 (c .pre .1 .1))) }
+add-result c = record { fits = short (toBits binary32 (c .args .v)) (toBits-lt binary32 (c .args .v) (passes _ (c .good .0 .1))) }
   where
-    short : (z : ℕ) → z ≤ 276 → z < 2 ^ 32
-    short z h = omega arith
+    short : (b : ℕ) → b < 2 ^ 32 → b / 8388608 + 23 < 2 ^ 32
+    short b h = omega arith
 
 returns : tie.Need-returns
 returns c = digits-here c
