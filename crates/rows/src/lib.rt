@@ -3,6 +3,7 @@ mod channel;
 mod flat;
 mod fourth;
 mod kind;
+mod repeat;
 
 use kind::Kind;
 ghost use mathlib.Core.Path.{_≡_};

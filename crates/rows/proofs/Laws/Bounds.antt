@@ -7,20 +7,22 @@ use mathlib.Core.Bool.{Bool, false}
 use mathlib.Core.Path.{_≡_, refl, sym, ap, subst}
 use borrow.Author.Tests.{leb-false}
 use lib.Dec.{leb, eqb}
-use lib.ListN.{length, getD, set, length-replicate}
+use lib.ListN.{length, getD, length-replicate}
 use lib.Seq.{getD-drop}
 use Rattle.steps.specs.Loop.{pick}
 use Rattle.rows.proofs.Laws.Turns.{by-test, Leads, run-keeps}
 use Rattle.rows.proofs.Laws.Kept.{Kept, kept-same, kept-then, kept-set, kept-spread, length-bytes}
 use Rattle.rows.proofs.Laws.Channel.{channel-cases, at-onward}
-use Rattle.rows.proofs.Laws.Flat.{flat-cases, pixel-at, repeat-cases}
+use Rattle.rows.proofs.Laws.Repeat.{repeat-cases}
+use Rattle.rows.proofs.Laws.Flat.{flat-cases, pixel-at}
 use Rattle.rows.proofs.Laws.Row.{chans-cases, not-flat}
 use Rattle.rows.specs.declared.Taken.{Taken}
 use Rattle.rows.specs.declared.Taken.the-variants.{Done, Short}
 use Rattle.rows.specs.declared.kind.Kind.{Kind}
 use Rattle.rows.specs.declared.kind.Kind.the-variants as kind
 use Rattle.rows.specs.Channel.{Chan, channelOf, channelOut, channelTurn, isRun, spanAt, spanBytes, spanLength, spanOf}
-use Rattle.rows.specs.Flat.{Flat, Rep, copied, flat, flatOf, flatOut, flatTurn, fourTo, isRepeat, pixelOf, repeatOf, repeatOut, repeatTurn, repeated}
+use Rattle.rows.specs.Repeat.{Rep, copied, repeatOf, repeatOut, repeatTurn}
+use Rattle.rows.specs.Flat.{Flat, flat, flatOf, flatOut, flatTurn, fourTo, isRepeat, pixelOf, repeated}
 use Rattle.rows.specs.Row.{Chans, channelsOf, chansOut, chansTurn, isFlatWidth, isMark, kindOf, restOf, rowOf}
 
 -- ---- From a place and a store to a later place and store
