@@ -18,6 +18,7 @@ pub record Flat : Type 0 where
   pub shift : ℕ
   pub store : List ℕ
 
+-- that record, from its five fields
 abbrev pub flat : ℕ → ℕ → ℕ → ℕ → List ℕ → Flat
 flat at place wanted shift store = record { at = at; place = place; wanted = wanted; shift = shift; store = store }
 
@@ -41,6 +42,7 @@ repeated src start x =
 abbrev pub ordinary : Flat → Flat
 ordinary x = flat (x .at + 4) (x .place + 4) (x .wanted - 1) 0 (x .store)
 
+-- the one or the other; `start` is where the part starts in the store
 unfoldable pub pixelOf : List ℕ → ℕ → Flat → Flat
 pixelOf src start x = pick (isRepeat src (x .at)) (repeated src start x) (ordinary x)
 
@@ -60,6 +62,7 @@ flatTurn src start x =
     (more (pixelOf src start (flat (x .at) (x .place) (x .wanted) (x .shift) stored))))
     (halt (Done (x .at), x .store))
 
+-- where the turns are used up, which never happens
 abbrev pub flatOut : Flat → Taken × List ℕ
 flatOut x = (Short, x .store)
 

@@ -13,6 +13,7 @@ pub record Rep : Type 0 where
   pub count : ℕ
   pub store : List ℕ
 
+-- that record, from its four fields
 abbrev pub rep : ℕ → ℕ → ℕ → List ℕ → Rep
 rep place wanted count store = record { place = place; wanted = wanted; count = count; store = store }
 
@@ -31,6 +32,7 @@ repeatTurn start x =
     (more (rep (x .place + 4) (x .wanted - 4) (x .count - 1) (copied start (x .place) (x .store))))
     (halt (x .place, x .wanted, x .store))
 
+-- where the turns are used up, which never happens
 abbrev pub repeatOut : Rep → ℕ × ℕ × List ℕ
 repeatOut x = (x .place, x .wanted, x .store)
 
