@@ -4,25 +4,26 @@ use Prim.Native.Nat.{ℕ, _+_, _-_, _*_, min, _<_, _≤_}
 use native.Mathlib.Omega.{arith}
 use mathlib.Core.List.{List}
 use mathlib.Core.Bool.{Bool, false}
-use mathlib.Core.Path.{_≡_, refl, sym, ap, subst, _∙_}
+use mathlib.Core.Path.{_≡_, refl, sym, ap, subst}
 use borrow.Author.Tests.{leb-false}
 use lib.Dec.{leb, eqb}
-use lib.ListN.{length, getD, drop, set, replicate, length-replicate}
+use lib.ListN.{length, getD, length-replicate}
 use lib.Seq.{getD-drop}
-use Rattle.steps.specs.Loop.{Turn}
-use Rattle.steps.specs.Place.{bytesFrom, spread}
+use Rattle.steps.specs.Loop.{pick}
 use Rattle.rows.proofs.Laws.Turns.{by-test, Leads, run-keeps}
 use Rattle.rows.proofs.Laws.Kept.{Kept, kept-same, kept-then, kept-set, kept-spread, length-bytes}
 use Rattle.rows.proofs.Laws.Channel.{channel-cases, at-onward}
-use Rattle.rows.proofs.Laws.Flat.{flat-cases, pixel-at, repeat-cases}
+use Rattle.rows.proofs.Laws.Repeat.{repeat-cases}
+use Rattle.rows.proofs.Laws.Flat.{flat-cases, pixel-at}
 use Rattle.rows.proofs.Laws.Row.{chans-cases, not-flat}
 use Rattle.rows.specs.declared.Taken.{Taken}
 use Rattle.rows.specs.declared.Taken.the-variants.{Done, Short}
 use Rattle.rows.specs.declared.kind.Kind.{Kind}
 use Rattle.rows.specs.declared.kind.Kind.the-variants as kind
-use Rattle.rows.specs.Channel.{Chan, chan, channelOf, channelOut, channelTurn, isRun, spanAt, spanBytes, spanLength, spanOf}
-use Rattle.rows.specs.Flat.{Flat, Rep, copied, flat, flatOf, flatOut, flatTurn, fourTo, isRepeat, pixelOf, rep, repeatOf, repeatOut, repeatTurn, repeated}
-use Rattle.rows.specs.Row.{Chans, chans, channelsOf, chansOut, chansTurn, isFlatWidth, isMark, kindOf, restOf, rowOf}
+use Rattle.rows.specs.Channel.{Chan, channelOf, channelOut, channelTurn, isRun, spanAt, spanBytes, spanLength, spanOf}
+use Rattle.rows.specs.Repeat.{Rep, copied, repeatOf, repeatOut, repeatTurn}
+use Rattle.rows.specs.Flat.{Flat, flat, flatOf, flatOut, flatTurn, fourTo, isRepeat, pixelOf, repeated}
+use Rattle.rows.specs.Row.{Chans, channelsOf, chansOut, chansTurn, isFlatWidth, isMark, kindOf, restOf, rowOf}
 
 -- ---- From a place and a store to a later place and store
 
@@ -184,30 +185,34 @@ Begun src limit at store kind.Flat s = On src limit at store at s
 Begun src limit at store (kind.Pixel next) s = On src limit at store next s
 Begun src limit at store (kind.Channels next) s = On src limit at store next s
 
+-- the cases of `kindOf`, over any tests: `one`, `two` and `four` are the store with so many of the bytes
+module _ (src : List ℕ) (limit at : ℕ) (store one two four : List ℕ) where
+  abbrev L : Kind × List ℕ → Type 0
+  L a = Begun src limit at store (a .0) (a .1)
+
+  begun : (no-1 is-2 no-2 no-3 no-4 mark : Bool) → Kept limit store one → Kept limit store two → Kept limit store four → (no-4 ≡ false → at + 4 ≤ length src)
+      → L (pick no-1 (kind.Missing, store) (pick is-2 (pick no-2 (kind.Missing, store) (pick no-3 (kind.Missing, one) (pick no-4 (kind.Missing, two)
+      (pick mark (kind.Channels (at + 4), two) (kind.Pixel (at + 4), four))))) (kind.Flat, store)))
+  begun no-1 is-2 no-2 no-3 no-4 mark k₁ k₂ k₄ h =
+      by-test L no-1 (λ _. kept-same limit store) (λ _.
+      by-test L is-2 (λ _.
+      by-test L no-2 (λ _. kept-same limit store) (λ _.
+      by-test L no-3 (λ _. k₁) (λ _.
+      by-test L no-4 (λ _. k₂) (λ t.
+      by-test L mark
+      (λ _. on-to src limit at store at (at + 4) store two (on-start src limit at store) k₂ (omega arith) (h t))
+      (λ _. on-to src limit at store at (at + 4) store four (on-start src limit at store) k₄ (omega arith) (h t))))))
+      (λ _. on-start src limit at store))
+
 kind-begun : (src : List ℕ) (limit at : ℕ) (store : List ℕ) → 4 ≤ limit → Begun src limit at store (kindOf src at store .0) (kindOf src at store .1)
 unfolding kindOf
 kind-begun src limit at store h =
-    let second = getD src (at + 1) 0 in
-    let third = getD src (at + 2) 0 in
-    let one = set store 1 second in
-    let two = set one 2 third in
-    let k₁ : Kept limit store one = kept-set limit store 1 second (omega arith) in
-    let k₂ : Kept limit store two = kept-then k₁ (kept-set limit one 2 third (omega arith)) in
-    let k₃ = kept-then k₂ (kept-set limit two 0 2 (omega arith)) in
-    let k₄ = kept-then k₃ (kept-set limit (set two 0 2) 3 (getD src (at + 3) 0) (omega arith)) in
-    by-test L (leb (length src) at) (λ _. kept-same limit store) (λ _.
-    by-test L (eqb (getD src at 0) 2) (λ _.
-    by-test L (leb (length src) (at + 1)) (λ _. kept-same limit store) (λ _.
-    by-test L (leb (length src) (at + 2)) (λ _. k₁) (λ _.
-    by-test L (leb (length src) (at + 3)) (λ _. k₂) (λ t.
-    let l = leb-false (length src) (at + 3) t in
-    by-test L (isMark second third)
-    (λ _. on-to src limit at store at (at + 4) store two (on-start src limit at store) k₂ (omega arith) (omega arith))
-    (λ _. on-to src limit at store at (at + 4) store _ (on-start src limit at store) k₄ (omega arith) (omega arith))))))
-    (λ _. on-start src limit at store))
-  where
-    L : Kind × List ℕ → Type 0
-    L a = Begun src limit at store (a .0) (a .1)
+    let k₁ = kept-set limit store 1 (getD src (at + 1) 0) (omega arith) in
+    let k₂ = kept-then k₁ (kept-set limit _ 2 (getD src (at + 2) 0) (omega arith)) in
+    let k₃ = kept-then k₂ (kept-set limit _ 0 2 (omega arith)) in
+    let k₄ = kept-then k₃ (kept-set limit _ 3 (getD src (at + 3) 0) (omega arith)) in
+    begun src limit at store _ _ _ (leb (length src) at) (eqb (getD src at 0) 2) (leb (length src) (at + 1)) (leb (length src) (at + 2)) (leb (length src) (at + 3))
+    (isMark (getD src (at + 1) 0) (getD src (at + 2) 0)) k₁ k₂ k₄ (λ t. omega (arith, leb-false (length src) (at + 3) t))
 
 rest-sound : (src : List ℕ) (at : ℕ) (store : List ℕ) (width : ℕ) → 1 ≤ width → (k : Kind) (s : List ℕ) → Begun src (4 * width) at store k s
     → Sound src (4 * width) at store (restOf src at width k s)
