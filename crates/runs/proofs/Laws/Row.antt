@@ -11,6 +11,7 @@ use borrow.Author.Tests.{leb-true}
 use Rattle.steps.specs.Place.{bytesFrom}
 use Rattle.runs.specs.Channel.{code}
 use Rattle.runs.specs.Row.{channel, isCoded, codedRow, rowOf}
+use Rattle.runs.proofs.Laws.Place.{length-bytes}
 
 pub length-channel : (px : List ℕ) (at n : ℕ) → length (channel px at n) ≡ n
 length-channel px at zero = refl
@@ -34,11 +35,6 @@ pub getD-channel : (px : List ℕ) (at i n : ℕ) → i < n → getD (channel px
 getD-channel px at i zero h = absurd (omega arith)
 getD-channel px at zero (suc n) h = ap (λ (a : ℕ). getD px a 0) (omega arith)
 getD-channel px at (suc i) (suc n) h = getD-channel px (at + 4) i n (omega arith) ∙ ap (λ (a : ℕ). getD px a 0) (omega arith)
-
-pub length-bytes : (px : List ℕ) (at n : ℕ) → length (bytesFrom px at n) ≡ n
-unfolding bytesFrom
-length-bytes px at zero = refl
-length-bytes px at (suc n) = ap suc (length-bytes px (at + 1) n)
 
 -- ---- the two kinds of row
 

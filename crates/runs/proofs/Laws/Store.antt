@@ -4,7 +4,6 @@ use mathlib.Core.Logic.{_⊎_, ⊎-elim}
 use mathlib.Core.List.{List, [], _∷_, _++_}
 use Prim.Native.Nat.{ℕ, zero, suc, _+_, _-_, _*_, _/_, _%_, _≤_, _<_, min}
 use native.Mathlib.Omega.{arith}
-use native.Mathlib.Nat.{add-zero}
 use lib.ListN.{length, getD, take, drop, set, length-append, drop-of-length-le}
 use lib.Seq.{take-all}
 use Rattle.steps.specs.Place.{spread}
@@ -12,17 +11,15 @@ use Rattle.runs.specs.Channel.{literals, code, gather, stretch, cut}
 use Rattle.runs.specs.Row.{channel, mark, codedRow}
 use Rattle.runs.specs.Part.{runOf, Parted}
 use Rattle.runs.proofs.Laws.Channel.{literals-packet, length-literals}
+use Rattle.runs.proofs.Laws.Place.{spread-append}
 use Rattle.runs.proofs.Laws.Row.{length-channel, drop-channel, take-channel, getD-channel}
 use Rattle.runs.proofs.Laws.Part.{lt-or-ge, run-some}
 
-pub spread-append : (l : List ℕ) (i : ℕ) (p q : List ℕ) → spread 1 l i (p ++ q) ≡ spread 1 (spread 1 l i p) (i + length p) q
-unfolding spread
-spread-append l i [] q = ap (λ (k : ℕ). spread 1 l k q) (sym (add-zero i))
-spread-append l i (x ∷ p) q = spread-append (set l i x) (i + 1) p q ∙ ap (λ (k : ℕ). spread 1 (spread 1 (set l i x) (i + 1) p) k q) (omega arith)
-
 -- once p has been stored from o on, what is left to store
 spread-turn : (out d : List ℕ) (o e : ℕ) (p q : List ℕ) → d ≡ spread 1 out o p → e ≡ o + length p → spread 1 out o (p ++ q) ≡ spread 1 d e q
-spread-turn out d o e p q a b = spread-append out o p q ∙ rw (a, b)
+spread-turn out d o e p q a b =
+    let next : o + 1 * length p ≡ e = omega arith in
+    spread-append 1 out o p q ∙ rw (a, next)
 
 -- ---- nothing is left
 
