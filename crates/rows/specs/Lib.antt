@@ -1,0 +1,4 @@
+-- "Rows read" of document 01: one row of the input into the row store.
+pub mod Channel
+pub mod Flat
+pub mod Row

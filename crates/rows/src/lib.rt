@@ -1,0 +1,34 @@
+// One row of the input, read into the row store.
+mod channel;
+mod flat;
+mod fourth;
+mod kind;
+
+use kind::Kind;
+ghost use mathlib.Core.Path.{_≡_};
+ghost use Prim.Native.Nat.{_*_, _≤_};
+ghost use lib.ListN.{length};
+ghost use Rattle.rows.specs.Row.{rowOf};
+
+// What reading a row, or a part of one, answers: the next place in the input, or that the bytes end too early.
+pub enum Taken {
+    Done { next: usize },
+    Short,
+}
+
+// The row from a place of the input on.
+pub fn read_row(src: &[u8], at: usize, store: &mut [u8], width: usize) -> Taken
+    requires { ⌜ 4 * width ≤ length (now store) ⌝ }
+    ensures { λ r. ⌜ (r, now (store .exit)) ≡ rowOf (now (src .entry)) at (now (store .entry)) width ⌝ }
+{
+    if kind::is_flat_width(width) {
+        return flat::read_flat(src, at, store, 0, width);
+    }
+    let k = kind::read_kind(src, at, store);
+    match k {
+        Kind::Missing => Taken::Short,
+        Kind::Flat => flat::read_flat(src, at, store, 0, width),
+        Kind::Pixel { next } => flat::read_flat(src, next, store, 4, width - 1),
+        Kind::Channels { next } => channel::read_channels(src, next, store, width),
+    }
+}
