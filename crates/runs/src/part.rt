@@ -1,9 +1,11 @@
-// The scan of a channel: literals or a short run, and then a long run, or the end.
+// The scan of a channel: bytes that gather, written as literals or as a short run, and then a long run, or the end.
 ghost use mathlib.Core.Path.{_≡_};
+ghost use mathlib.Core.Logic.{_⊎_};
 ghost use Prim.Native.Nat.{_+_, _*_, _<_, _≤_};
 ghost use lib.ListN.{length};
+ghost use Rattle.steps.specs.Loop.{pick};
 ghost use Rattle.runs.specs.Row.{channel};
-ghost use Rattle.runs.specs.Part.{Front, Parted, literalsOf, shortOf};
+ghost use Rattle.runs.specs.Part.{FourEqual, Skip, Gathers, Front, Parted, oneRun};
 
 // How the front of a channel is written: so many literals, a short run, and a long run of so many bytes.
 pub struct Part {
@@ -12,14 +14,47 @@ pub struct Part {
     pub long: usize,
 }
 
-// How many bytes the first run of a channel has, of which `left` bytes are left, the first at `at`.
+// Of the four bytes of a channel from `at` on, the first after the last two neighbours that differ; 0 where all are equal.
+fn skip(px: &[u8], at: usize) -> usize
+    requires { ⌜ at + 12 < length (now px) ⌝ }
+    ensures { λ r. ⌜ Skip (now (px .entry)) at r ⌝ }
+{
+    if px[at + 12] != px[at + 8] {
+        return 3;
+    }
+    if px[at + 8] != px[at + 4] {
+        return 2;
+    }
+    if px[at + 4] != px[at] {
+        return 1;
+    }
+    0
+}
+
+// How many of the `left` bytes of a channel gather before the first four that are equal, or the end.
+fn gathered(px: &[u8], at: usize, left: usize) -> usize
+    requires { ⌜ at + 4 * left < length (now px) + 4 ⌝ }
+    ensures { λ r. ⌜ Gathers (channel (now (px .entry)) at left) r × ((r ≡ left) ⊎ ((r + 4 ≤ left) × FourEqual (now (px .entry)) (at + 4 * r))) ⌝ }
+{
+    let mut h = 0;
+    while h + 3 < left {
+        let d = skip(px, at + 4 * h);
+        if d == 0 {
+            return h;
+        }
+        h += d;
+    }
+    left
+}
+
+// How many bytes the first run of a channel has, of which `left` bytes are left, the first four equal.
 fn run_at(px: &[u8], at: usize, left: usize) -> usize
-    requires { ⌜ (0 < left) × (at + 4 * left < length (now px) + 4) ⌝ }
+    requires { ⌜ (4 ≤ left) × (at + 4 * left < length (now px) + 4) × FourEqual (now px) at ⌝ }
     ensures { λ r. ⌜ Front left (channel (now (px .entry)) at left) r ⌝ }
 {
     let v = px[at];
     let cap = steps::least(127, left);
-    let mut n = 1;
+    let mut n = 4;
     while n < cap {
         if px[at + 4 * n] != v {
             return n;
@@ -29,21 +64,34 @@ fn run_at(px: &[u8], at: usize, left: usize) -> usize
     n
 }
 
-// The part whose `held` bytes were gathered from `runs` short runs, and whose long run has `long`.
-fn part_of(held: usize, runs: usize, long: usize) -> Part
-    ensures { λ r. ⌜ (r .literals ≡ literalsOf held runs) × (r .short ≡ shortOf held runs) × (r .long ≡ long) ⌝ }
+// Whether h bytes of a channel are one run of 2 or 3.
+fn is_one_run(px: &[u8], at: usize, h: usize) -> bool
+    requires { ⌜ at + 4 * h < length (now px) + 4 ⌝ }
+    ensures { λ r. ⌜ r ≡ oneRun (channel (now (px .entry)) at h) ⌝ }
 {
-    if runs == 1 {
-        if 2 <= held {
-            return Part {
-                literals: 0,
-                short: held,
-                long,
-            };
-        }
+    if h == 2 {
+        return px[at + 4] == px[at];
+    }
+    if h == 3 {
+        return px[at + 4] == px[at] && px[at + 8] == px[at + 4];
+    }
+    false
+}
+
+// The part whose h bytes gather, and whose long run has `long`.
+fn part_of(px: &[u8], at: usize, h: usize, long: usize) -> Part
+    requires { ⌜ at + 4 * h < length (now px) + 4 ⌝ }
+    ensures { λ r. ⌜ (r .literals ≡ pick (oneRun (channel (now (px .entry)) at h)) 0 h) × (r .short ≡ pick (oneRun (channel (now (px .entry)) at h)) h 0) × (r .long ≡ long) ⌝ }
+{
+    if is_one_run(px, at, h) {
+        return Part {
+            literals: 0,
+            short: h,
+            long,
+        };
     }
     Part {
-        literals: held,
+        literals: h,
         short: 0,
         long,
     }
@@ -54,15 +102,10 @@ pub fn part_at(px: &[u8], at: usize, left: usize) -> Part
     requires { ⌜ (0 < left) × (at + 4 * left < length (now px) + 4) ⌝ }
     ensures { λ r. ⌜ Parted left (channel (now (px .entry)) at left) (r .literals) (r .short) (r .long) ⌝ }
 {
-    let mut held = 0;
-    let mut runs = 0;
-    while held < left {
-        let n = run_at(px, at + 4 * held, left - held);
-        if 4 <= n {
-            return part_of(held, runs, n);
-        }
-        held += n;
-        runs += 1;
+    let h = gathered(px, at, left);
+    if h == left {
+        return part_of(px, at, h, 0);
     }
-    part_of(held, runs, 0)
+    let n = run_at(px, at + 4 * h, left - h);
+    part_of(px, at, h, n)
 }

@@ -1,7 +1,7 @@
 -- The laws of places: what is stored in two goes, and what stands at a place of a list.
 use mathlib.Core.Path.{_≡_, refl, sym, ap, _∙_}
 use mathlib.Core.List.{List, [], _∷_, _++_}
-use Prim.Native.Nat.{ℕ, zero, suc, _+_, _-_, _*_, _<_}
+use Prim.Native.Nat.{ℕ, _+_, _*_, _<_}
 use native.Mathlib.Omega.{arith}
 use native.Mathlib.Nat.{add-zero}
 use lib.ListN.{length, getD, drop, set, length-drop}
@@ -12,11 +12,6 @@ pub spread-append : (d : ℕ) (s : List ℕ) (i : ℕ) (p q : List ℕ) → spre
 unfolding spread
 spread-append d s i [] q = ap (λ (k : ℕ). spread d s k q) (omega arith)
 spread-append d s i (x ∷ p) q = spread-append d (set s i x) (i + d) p q ∙ ap (λ (k : ℕ). spread d (spread d (set s i x) (i + d) p) k q) (omega arith)
-
-pub length-bytes : (px : List ℕ) (at n : ℕ) → length (bytesFrom px at n) ≡ n
-unfolding bytesFrom
-length-bytes px at zero = refl
-length-bytes px at (suc n) = ap suc (length-bytes px (at + 1) n)
 
 -- the byte x stands at a place, and l after it
 pub drop-next : (src : List ℕ) (at x : ℕ) (l : List ℕ) → drop at src ≡ x ∷ l → (at < length src) × (getD src at 0 ≡ x) × (drop (at + 1) src ≡ l)

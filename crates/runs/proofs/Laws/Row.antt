@@ -9,9 +9,9 @@ use lib.ListN.{length, getD, take, drop, length-append}
 use lib.Dec.{leb}
 use borrow.Author.Tests.{leb-true}
 use Rattle.steps.specs.Place.{bytesFrom}
+use Rattle.rows.proofs.Laws.Kept.{length-bytes}
 use Rattle.runs.specs.Channel.{code}
 use Rattle.runs.specs.Row.{channel, isCoded, codedRow, rowOf}
-use Rattle.runs.proofs.Laws.Place.{length-bytes}
 
 pub length-channel : (px : List ℕ) (at n : ℕ) → length (channel px at n) ≡ n
 length-channel px at zero = refl

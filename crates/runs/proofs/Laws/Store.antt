@@ -13,7 +13,8 @@ use Rattle.runs.specs.Part.{runOf, Parted}
 use Rattle.runs.proofs.Laws.Channel.{literals-packet, length-literals}
 use Rattle.runs.proofs.Laws.Place.{spread-append}
 use Rattle.runs.proofs.Laws.Row.{length-channel, drop-channel, take-channel, getD-channel}
-use Rattle.runs.proofs.Laws.Part.{lt-or-ge, run-some}
+use Rattle.runs.proofs.Laws.Cut.{lt-or-ge}
+use Rattle.runs.proofs.Laws.Part.{run-some}
 
 -- once p has been stored from o on, what is left to store
 spread-turn : (out d : List ℕ) (o e : ℕ) (p q : List ℕ) → d ≡ spread 1 out o p → e ≡ o + length p → spread 1 out o (p ++ q) ≡ spread 1 d e q

@@ -2,12 +2,12 @@
 use Prim.Native.Nat.{_-_, _≤_}
 use native.Mathlib.Omega.{arith}
 use borrow.Author.Needs.{needs}
-use Rattle.runs.proofs.Laws.Part.{InHand, run-start, run-more, run-other, run-stop}
+use Rattle.runs.proofs.Laws.Front.{InHand, run-start, run-more, run-other, run-stop}
 use Rattle.runs.proofs.part.run_at.Statement.{statement}
 use Rattle.runs.proofs.part.run_at.Tie as tie
 
 abbrev Inv-loop : tie.InvT-loop
-Inv-loop px at left v cap n₀ n = (1 ≤ n) × (n ≤ cap) × InHand px at left n
+Inv-loop px at left v cap n₀ n = (4 ≤ n) × (n ≤ cap) × InHand px at left n
 
 abbrev μ-loop : tie.MeasureT-loop
 μ-loop px at left v cap n₀ n = cap - n
@@ -21,7 +21,7 @@ least-requires c κs = search needs
 loop-holds : tie.Need-loop-holds Inv-loop μ-loop
 loop-holds c =
     let a = c .before .before .before .args in
-    (omega arith, omega arith, run-start (a .px .now) (a .at) (a .left) (omega arith))
+    (omega arith, omega arith, run-start (a .px .now) (a .at) (a .left) (omega arith) (c .before .before .before .pre .2))
 
 mul-if1 : tie.Need-mul-if1 Inv-loop μ-loop
 mul-if1 c = omega arith
@@ -36,7 +36,7 @@ returns : tie.Need-returns Inv-loop μ-loop
 returns c =
     let a = c .before .before .before .before .before .before .before .args in
     let at-loop = c .before .before .before .loop in
-    record { some = omega arith; small = omega arith; within = omega arith; front = run-other (a .px .now) (a .at) (a .left) (at-loop .n) (at-loop .inv .2) (omega arith) (c .if1 .taken) }
+    record { long = omega arith; small = omega arith; within = omega arith; front = run-other (a .px .now) (a .at) (a .left) (at-loop .n) (at-loop .inv .2) (omega arith) (c .if1 .taken) }
 
 add-n : tie.Need-add-n Inv-loop μ-loop
 add-n c = omega arith
@@ -54,7 +54,7 @@ returns-2 : tie.Need-returns-2 Inv-loop μ-loop
 returns-2 c =
     let a = c .before .before .before .before .before .args in
     let at-loop = c .before .loop in
-    record { some = omega arith; small = omega arith; within = omega arith; front = run-stop (a .px .now) (a .at) (a .left) (at-loop .n) (at-loop .inv .2) (omega arith) (omega arith) }
+    record { long = omega arith; small = omega arith; within = omega arith; front = run-stop (a .px .now) (a .at) (a .left) (at-loop .n) (at-loop .inv .2) (omega arith) (omega arith) }
 
 pub run-at-spec : {M : Type 1} → statement M
 run-at-spec =
