@@ -1,7 +1,7 @@
 -- The laws of `specs/Channel.antt`: what one more byte does to the cut, what one more run does to the gathering.
 use mathlib.Core.Path.{_≡_, refl, sym, ap, _∙_}
 use mathlib.Core.Logic.{_⊎_, inl, inr, ⊎-elim}
-use mathlib.Core.Bool.{Bool, true, false, _&&_}
+use mathlib.Core.Bool.{Bool, true, false, _&&_, false≢true}
 use mathlib.Core.List.{List, [], _∷_, _++_, append-assoc, append-nil}
 use Prim.Native.Nat.{ℕ, zero, suc, _+_, _-_, _/_, _≤_, _<_}
 use native.Mathlib.Omega.{arith}
@@ -11,6 +11,10 @@ use borrow.Author.Tests.{lt-ltb, le-ltb, eq-eqb, ne-eqb, eqb-true, eqb-false, lt
 use Rattle.runs.specs.Channel.{Run, run, grow, cut, bytes, literals, packet, stretch, gather}
 
 -- ---- the cut
+
+pub and-both : (a b : Bool) → a && b ≡ true → (a ≡ true) × (b ≡ true)
+and-both true b e = (refl, e)
+and-both false b e = absurd (false≢true e)
 
 and-no : (b : Bool) → b && false ≡ false
 and-no true = refl
@@ -29,13 +33,13 @@ unfolding grow
 grow-full v x n xs l = rw (le-ltb n 127 l, and-no (eqb x v), grow)
 
 -- the next byte, whatever follows it, lengthens the run in hand or ends it
-abbrev Lengthens : ℕ → ℕ → ℕ → Type 0
+abbrev pub Lengthens : ℕ → ℕ → ℕ → Type 0
 Lengthens v n x = (x ≡ v) × ((xs : List ℕ) → grow v n (x ∷ xs) ≡ grow v (suc n) xs)
 
-abbrev Ends : ℕ → ℕ → ℕ → Type 0
+abbrev pub Ends : ℕ → ℕ → ℕ → Type 0
 Ends v n x = (xs : List ℕ) → grow v n (x ∷ xs) ≡ run v n ∷ grow x 1 xs
 
-pub grow-step : (v n x : ℕ) → ((x ≡ v) × ((xs : List ℕ) → grow v n (x ∷ xs) ≡ grow v (suc n) xs)) ⊎ ((xs : List ℕ) → grow v n (x ∷ xs) ≡ run v n ∷ grow x 1 xs)
+pub grow-step : (v n x : ℕ) → Lengthens v n x ⊎ Ends v n x
 grow-step v n x = go (eqb x v) (ltb n 127) refl refl
   where
     go : (a b : Bool) → eqb x v ≡ a → ltb n 127 ≡ b → Lengthens v n x ⊎ Ends v n x
@@ -91,22 +95,32 @@ unfolding gather
 gather-short g v n rs h = rw (lt-leb 4 n h, gather)
 
 -- a run is long or short
-pub gather-step : (g : List Run) (v n : ℕ) (rs : List Run)
-    → ((4 ≤ n) × (gather g (run v n ∷ rs) ≡ stretch g ++ (packet v n ++ gather [] rs))) ⊎ (gather g (run v n ∷ rs) ≡ gather (g ++ run v n ∷ []) rs)
+abbrev pub Closes : List Run → ℕ → ℕ → List Run → Type 0
+Closes g v n rs = (4 ≤ n) × (gather g (run v n ∷ rs) ≡ stretch g ++ (packet v n ++ gather [] rs))
+
+abbrev pub Joins : List Run → ℕ → ℕ → List Run → Type 0
+Joins g v n rs = gather g (run v n ∷ rs) ≡ gather (g ++ run v n ∷ []) rs
+
+pub gather-step : (g : List Run) (v n : ℕ) (rs : List Run) → Closes g v n rs ⊎ Joins g v n rs
 gather-step g v n rs = go (leb 4 n) refl
   where
-    go : (b : Bool) → leb 4 n ≡ b → ((4 ≤ n) × (gather g (run v n ∷ rs) ≡ stretch g ++ (packet v n ++ gather [] rs))) ⊎ (gather g (run v n ∷ rs) ≡ gather (g ++ run v n ∷ []) rs)
+    go : (b : Bool) → leb 4 n ≡ b → Closes g v n rs ⊎ Joins g v n rs
     go true e = inl (leb-true 4 n e, gather-long g v n rs (leb-true 4 n e))
     go false e = inr (gather-short g v n rs (leb-false 4 n e))
 
 -- a stretch is a run of 2 bytes or more, or literals
-pub stretch-step : (g : List Run) → ((v : ℕ) × (n : ℕ) × (2 ≤ n) × (bytes g ≡ replicate n v) × (stretch g ≡ packet v n)) ⊎ (stretch g ≡ literals 0 (bytes g))
+abbrev pub AsRun : List Run → Type 0
+AsRun g = (v : ℕ) × (n : ℕ) × (2 ≤ n) × (bytes g ≡ replicate n v) × (stretch g ≡ packet v n)
+
+abbrev pub AsLiterals : List Run → Type 0
+AsLiterals g = stretch g ≡ literals 0 (bytes g)
+
+pub stretch-step : (g : List Run) → AsRun g ⊎ AsLiterals g
 unfolding stretch
 stretch-step [] = inr refl
 stretch-step (run v n ∷ []) = go (leb 2 n) refl
   where
-    go : (b : Bool) → leb 2 n ≡ b
-        → ((w : ℕ) × (m : ℕ) × (2 ≤ m) × (bytes (run v n ∷ []) ≡ replicate m w) × (stretch (run v n ∷ []) ≡ packet w m)) ⊎ (stretch (run v n ∷ []) ≡ literals 0 (bytes (run v n ∷ [])))
+    go : (b : Bool) → leb 2 n ≡ b → AsRun (run v n ∷ []) ⊎ AsLiterals (run v n ∷ [])
     go true e = inl (v, n, leb-true 2 n e, append-nil (replicate n v), rw (e, stretch))
     go false e = inr (rw (e, stretch))
 stretch-step (r ∷ s ∷ g) = inr refl

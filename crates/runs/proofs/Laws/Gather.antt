@@ -1,13 +1,13 @@
 -- Bytes gather from one border to the next, where the next is at most three bytes on.
 use mathlib.Core.Path.{_≡_, refl, sym, ap, _∙_}
 use mathlib.Core.List.{List, [], _∷_, _++_, append-assoc, append-nil}
-use Prim.Native.Nat.{ℕ, zero, suc, _+_, _-_, _*_, _≤_, _<_}
+use Prim.Native.Nat.{ℕ, _+_, _-_, _*_, _≤_, _<_}
 use native.Mathlib.Omega.{arith}
 use lib.ListN.{length, getD, take, drop, replicate, length-append, length-replicate, length-drop}
 use lib.Seq.{length-take-le, getD-take, getD-drop, take-take, take-add, drop-at, drop-drop}
 use Rattle.runs.specs.Channel.{Run, run, cut, bytes, gather, code}
 use Rattle.runs.specs.Row.{channel}
-use Rattle.runs.specs.Part.{FourEqual, Skip, Gathers}
+use Rattle.runs.specs.Part.{Skip, Gathers}
 use Rattle.runs.proofs.Laws.Channel.{bytes-cut, gather-short}
 use Rattle.runs.proofs.Laws.Cut.{Border, cut-border, cut-few}
 use Rattle.runs.proofs.Laws.Row.{length-channel, getD-channel}

@@ -14,7 +14,7 @@ use Rattle.steps.specs.Loop.{pick}
 use Rattle.runs.specs.Channel.{Run, run, grow, cut, bytes, literals, packet, stretch, gather, code}
 use Rattle.runs.specs.Row.{channel}
 use Rattle.runs.specs.Part.{FourEqual, oneRun, runOf, Gathers, Front, Parted}
-use Rattle.runs.proofs.Laws.Channel.{grow-same, grow-other, bytes-cut, gather-long}
+use Rattle.runs.proofs.Laws.Channel.{and-both, grow-same, grow-other, bytes-cut, gather-long}
 use Rattle.runs.proofs.Laws.Cut.{grow-some}
 use Rattle.runs.proofs.Laws.Row.{length-channel, drop-channel, take-channel}
 
@@ -59,10 +59,6 @@ unfolding stretch
 stretch-many [] h = absurd (omega arith)
 stretch-many (r ∷ []) h = absurd (omega arith)
 stretch-many (r ∷ s ∷ g) h = refl
-
-and-both : (a b : Bool) → a && b ≡ true → (a ≡ true) × (b ≡ true)
-and-both true b e = (refl, e)
-and-both false b e = absurd (false≢true e)
 
 -- 2 or 3 equal bytes are one run
 one-run : (ys : List ℕ) → oneRun ys ≡ true → (2 ≤ length ys) × (length ys ≤ 3) × (stretch (cut ys) ≡ packet (getD ys 0 0) (length ys))

@@ -1,7 +1,7 @@
 -- The laws of `specs/Row.antt`: a channel's bytes by their places, the two kinds of row, and their sizes.
 use mathlib.Core.Path.{_≡_, refl, sym, ap, _∙_}
-use mathlib.Core.Bool.{Bool, true, false, _&&_, false≢true}
-use mathlib.Core.List.{List, [], _∷_, _++_}
+use mathlib.Core.Bool.{true, false}
+use mathlib.Core.List.{List, _∷_}
 use Prim.Native.Nat.{ℕ, zero, suc, _+_, _-_, _*_, _≤_, _<_}
 use native.Mathlib.Omega.{arith}
 use native.Mathlib.Nat.{zero-sub}
@@ -12,6 +12,7 @@ use Rattle.steps.specs.Place.{bytesFrom}
 use Rattle.rows.proofs.Laws.Kept.{length-bytes}
 use Rattle.runs.specs.Channel.{code}
 use Rattle.runs.specs.Row.{channel, isCoded, codedRow, rowOf}
+use Rattle.runs.proofs.Laws.Channel.{and-both}
 
 pub length-channel : (px : List ℕ) (at n : ℕ) → length (channel px at n) ≡ n
 length-channel px at zero = refl
@@ -37,10 +38,6 @@ getD-channel px at zero (suc n) h = ap (λ (a : ℕ). getD px a 0) (omega arith)
 getD-channel px at (suc i) (suc n) h = getD-channel px (at + 4) i n (omega arith) ∙ ap (λ (a : ℕ). getD px a 0) (omega arith)
 
 -- ---- the two kinds of row
-
-and-both : (a b : Bool) → a && b ≡ true → (a ≡ true) × (b ≡ true)
-and-both true b e = (refl, e)
-and-both false b e = absurd (false≢true e)
 
 pub coded-widths : (w : ℕ) → isCoded w ≡ true → (8 ≤ w) × (w ≤ 32767)
 coded-widths w e =

@@ -1,12 +1,12 @@
 -- A row that is written is read back by the reader's own definition, whatever stands before and after it.
 use mathlib.Core.Path.{_≡_, refl, sym, ap, _∙_}
 use mathlib.Core.Bool.{Bool, true, false, _&&_, false≢true}
-use mathlib.Core.List.{List, [], _∷_, _++_, append-assoc}
+use mathlib.Core.List.{List, _++_, append-assoc}
 use Prim.Native.Nat.{ℕ, zero, suc, _+_, _-_, _*_, _/_, _%_, _≤_, _<_}
 use native.Mathlib.Omega.{arith}
 use lib.ListN.{length, getD, drop, length-drop}
 use lib.Seq.{drop-append-seam}
-use lib.Dec.{ltb, leb, lit<, lit≤}
+use lib.Dec.{leb, lit<, lit≤}
 use borrow.Author.Tests.{lt-ltb, le-ltb, leb-true, leb-false}
 use Rattle.steps.specs.Place.{bytesFrom, spread}
 use Rattle.steps.proofs.Laws.Loop.{Runs}
@@ -17,7 +17,7 @@ use Rattle.rows.specs.Row as read
 use Rattle.rows.proofs.Laws.Flat.{pixel-ordinary, flat-starts, flat-done, flat-again}
 use Rattle.rows.proofs.Laws.Row.{mark-by, kind-channels, chans-starts, chans-again, chans-done, row-by-width, row-channels}
 use Rattle.runs.specs.Channel.{code}
-use Rattle.runs.specs.Row.{isCoded, mark, channel, codedRow, rowOf}
+use Rattle.runs.specs.Row.{isCoded, channel, codedRow, rowOf}
 use Rattle.runs.proofs.Laws.Place.{spread-append, drop-next, drop-past, bytes-there}
 use Rattle.runs.proofs.Laws.Row.{length-channel, coded-widths, row-coded, row-flat, coded-size, flat-size}
 use Rattle.runs.proofs.Laws.ChannelBack.{channel-there}

@@ -10,7 +10,7 @@ use lib.ListN.{length, getD, replicate, length-append, length-replicate, List·g
 use lib.Seq.{getD-append-add}
 use Rattle.steps.specs.Loop.{pick}
 use Rattle.runs.specs.Channel.{Run, run, grow, cut, bytes, literals, packet, stretch, gather, code}
-use Rattle.runs.specs.Row.{channel, isCoded, codedRow, rowOf, worstChannel, worstRow}
+use Rattle.runs.specs.Row.{channel, isCoded, rowOf, worstChannel, worstRow}
 use Rattle.runs.proofs.Laws.Channel.{bytes-cut, bytes-append, grow-other, length-literals, gather-short, gather-step, stretch-step}
 use Rattle.runs.proofs.Laws.Row.{length-channel, row-coded, flat-size, coded-size}
 

@@ -3,7 +3,6 @@ use mathlib.Core.Path.{refl}
 use mathlib.Core.Logic.{inl, inr}
 use Prim.Native.Nat.{_-_, _≤_}
 use native.Mathlib.Omega.{arith}
-use lib.ListN.{length}
 use Rattle.runs.proofs.Laws.Gather.{Looks, looks-first, looks-next, looks-end}
 use Rattle.runs.proofs.part.gathered.Statement.{statement}
 use Rattle.runs.proofs.part.gathered.Tie as tie
