@@ -9,14 +9,14 @@ use Rattle.runs.specs.Channel.{run, cut, literals, packet, gather, code}
 
 -- ---- the search for four equal bytes
 
--- four bytes of the channel from place at on are equal
-abbrev pub FourEqual : List ℕ → ℕ → Type 0
-FourEqual px at = (getD px (at + 4) 0 ≡ getD px at 0) × (getD px (at + 8) 0 ≡ getD px at 0) × (getD px (at + 12) 0 ≡ getD px at 0)
+-- four bytes of the channel from place at on are v
+abbrev pub Four : List ℕ → ℕ → ℕ → Type 0
+Four px at v = (getD px at 0 ≡ v) × (getD px (at + 4) 0 ≡ v) × (getD px (at + 8) 0 ≡ v) × (getD px (at + 12) 0 ≡ v)
 
 -- of four bytes from place at on, byte r differs from the one before it; or r is 0, and they are equal
 pub record Skip (px : List ℕ) (at r : ℕ) : Type 0 where
   pub small : r ≤ 3
-  pub equal : r ≡ 0 → FourEqual px at
+  pub equal : r ≡ 0 → Four px at (getD px at 0)
   pub differ : 0 < r → getD px (at + 4 * (r - 1)) 0 ≡ getD px (at + 4 * r) 0 → ⊥
 
 -- the first h bytes of xs gather: they are cut into runs of at most 3
@@ -26,6 +26,10 @@ pub record Gathers (xs : List ℕ) (h : ℕ) : Type 0 where
   pub gathers : code xs ≡ gather (cut (take h xs)) (cut (drop h xs))
 
 -- ---- the runs
+
+-- n bytes of the channel from place at on are equal
+abbrev pub Equal : List ℕ → ℕ → ℕ → Type 0
+Equal px at n = (k : ℕ) → k < n → getD px (at + 4 * k) 0 ≡ getD px at 0
 
 -- 2 or 3 bytes that are equal
 abbrev pub oneRun : List ℕ → Bool

@@ -13,7 +13,7 @@ use borrow.Author.Tests.{eq-eqb, ne-eqb, eqb-true, eqb-false}
 use Rattle.steps.specs.Loop.{pick}
 use Rattle.runs.specs.Channel.{Run, run, grow, cut, bytes, literals, packet, stretch, gather, code}
 use Rattle.runs.specs.Row.{channel}
-use Rattle.runs.specs.Part.{FourEqual, oneRun, runOf, Gathers, Front, Parted}
+use Rattle.runs.specs.Part.{Four, oneRun, runOf, Gathers, Front, Parted}
 use Rattle.runs.proofs.Laws.Channel.{and-both, grow-same, grow-other, bytes-cut, gather-long}
 use Rattle.runs.proofs.Laws.Cut.{grow-some}
 use Rattle.runs.proofs.Laws.Row.{length-channel, drop-channel, take-channel}
@@ -160,7 +160,7 @@ module _ (xs : List ℕ) (h l s : ℕ) (G : Gathers xs h) (el : l ≡ pick (oneR
 -- ---- the same, of a channel, over the values that the code has in hand
 
 -- four equal bytes follow what gathers, where the channel does not end
-pub long-follows : (px : List ℕ) (at left h : ℕ) → (h ≡ left) ⊎ ((h + 4 ≤ left) × FourEqual px (at + 4 * h)) → (h ≡ left → ⊥) → (h + 4 ≤ left) × FourEqual px (at + 4 * h)
+pub long-follows : (px : List ℕ) (at left h : ℕ) → (h ≡ left) ⊎ ((h + 4 ≤ left) × Four px (at + 4 * h) (getD px (at + 4 * h) 0)) → (h ≡ left → ⊥) → (h + 4 ≤ left) × Four px (at + 4 * h) (getD px (at + 4 * h) 0)
 long-follows px at left h e n = ⊎-elim (λ q. absurd (n q)) (λ q. q) e
 
 module _ (px : List ℕ) (at left h l s r : ℕ) (G : Gathers (channel px at left) h) (el : l ≡ pick (oneRun (channel px at h)) 0 h) (es : s ≡ pick (oneRun (channel px at h)) h 0) where

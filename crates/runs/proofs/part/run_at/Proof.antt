@@ -1,13 +1,14 @@
--- `runs::part::run_at` meets its contract. The invariant: n bytes are in the run in hand, and the rest is yet to be cut.
+-- `runs::part::run_at` meets its contract. The invariant: the first n bytes are equal.
 use Prim.Native.Nat.{_-_, _≤_}
 use native.Mathlib.Omega.{arith}
 use borrow.Author.Needs.{needs}
-use Rattle.runs.proofs.Laws.Front.{InHand, run-start, run-more, run-other, run-stop}
+use Rattle.runs.specs.Part.{Equal}
+use Rattle.runs.proofs.Laws.Front.{equal-next, run-other, run-stop}
 use Rattle.runs.proofs.part.run_at.Statement.{statement}
 use Rattle.runs.proofs.part.run_at.Tie as tie
 
 abbrev Inv-loop : tie.InvT-loop
-Inv-loop px at left v cap n₀ n = (4 ≤ n) × (n ≤ cap) × InHand px at left n
+Inv-loop px at left v cap n₀ n = (4 ≤ n) × (n ≤ cap) × Equal px at n
 
 abbrev μ-loop : tie.MeasureT-loop
 μ-loop px at left v cap n₀ n = cap - n
@@ -18,10 +19,13 @@ shared-slice-read-v c = omega arith
 least-requires : tie.Need-least-requires Inv-loop μ-loop
 least-requires c κs = search needs
 
+equal-fours-requires : tie.Need-equal-fours-requires Inv-loop μ-loop
+equal-fours-requires c κs =
+    let k = c .before .before .before in
+    (omega arith, omega arith, k .pre .2)
+
 loop-holds : tie.Need-loop-holds Inv-loop μ-loop
-loop-holds c =
-    let a = c .before .before .before .args in
-    (omega arith, omega arith, run-start (a .px .now) (a .at) (a .left) (omega arith) (c .before .before .before .pre .2))
+loop-holds c = c .equal-fours .ensures
 
 mul-if1 : tie.Need-mul-if1 Inv-loop μ-loop
 mul-if1 c = omega arith
@@ -34,9 +38,9 @@ shared-slice-read-if1 c = omega arith
 
 returns : tie.Need-returns Inv-loop μ-loop
 returns c =
-    let a = c .before .before .before .before .before .before .before .args in
+    let a = c .before .before .before .before .before .before .before .before .args in
     let at-loop = c .before .before .before .loop in
-    record { long = omega arith; small = omega arith; within = omega arith; front = run-other (a .px .now) (a .at) (a .left) (at-loop .n) (at-loop .inv .2) (omega arith) (c .if1 .taken) }
+    record { long = omega arith; small = omega arith; within = omega arith; front = run-other (a .px .now) (a .at) (a .left) (omega arith) (at-loop .n) (omega arith) (omega arith) (at-loop .inv .2) (omega arith) (c .if1 .taken) }
 
 add-n : tie.Need-add-n Inv-loop μ-loop
 add-n c = omega arith
@@ -46,15 +50,15 @@ loop-less c = omega arith
 
 loop-again : tie.Need-loop-again Inv-loop μ-loop
 loop-again c =
-    let a = c .before .before .before .before .before .before .before .args in
+    let a = c .before .before .before .before .before .before .before .before .args in
     let at-loop = c .before .before .before .loop in
-    (omega arith, omega arith, run-more (a .px .now) (a .at) (a .left) (at-loop .n) (at-loop .inv .2) (omega arith) (omega arith) (c .if1 .left))
+    (omega arith, omega arith, equal-next (a .px .now) (a .at) (at-loop .n) (at-loop .inv .2) (c .if1 .left))
 
 returns-2 : tie.Need-returns-2 Inv-loop μ-loop
 returns-2 c =
-    let a = c .before .before .before .before .before .args in
+    let a = c .before .before .before .before .before .before .args in
     let at-loop = c .before .loop in
-    record { long = omega arith; small = omega arith; within = omega arith; front = run-stop (a .px .now) (a .at) (a .left) (at-loop .n) (at-loop .inv .2) (omega arith) (omega arith) }
+    record { long = omega arith; small = omega arith; within = omega arith; front = run-stop (a .px .now) (a .at) (a .left) (omega arith) (at-loop .n) (omega arith) (omega arith) (at-loop .inv .2) (omega arith) }
 
 pub run-at-spec : {M : Type 1} → statement M
 run-at-spec =
@@ -64,6 +68,7 @@ run-at-spec =
     μ-loop
     shared-slice-read-v
     least-requires
+    equal-fours-requires
     loop-holds
     mul-if1
     add-if1
