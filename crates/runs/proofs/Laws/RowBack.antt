@@ -1,0 +1,155 @@
+-- A row that is written is read back by the reader's own definition, whatever stands before and after it.
+use mathlib.Core.Path.{_≡_, refl, sym, ap, _∙_}
+use mathlib.Core.Bool.{Bool, true, false, _&&_, false≢true}
+use mathlib.Core.List.{List, _++_, append-assoc}
+use Prim.Native.Nat.{ℕ, zero, suc, _+_, _-_, _*_, _/_, _%_, _≤_, _<_}
+use native.Mathlib.Omega.{arith}
+use lib.ListN.{length, getD, drop, length-drop}
+use lib.Seq.{drop-append-seam}
+use lib.Dec.{leb, lit<, lit≤}
+use borrow.Author.Tests.{lt-ltb, le-ltb, leb-true, leb-false}
+use Rattle.steps.specs.Place.{bytesFrom, spread}
+use Rattle.steps.proofs.Laws.Loop.{Runs}
+use Rattle.rows.specs.declared.Taken.{Taken}
+use Rattle.rows.specs.declared.Taken.the-variants.{Done}
+use Rattle.rows.specs.Flat.{isRepeat, flat, flatOf, flatOut, flatTurn}
+use Rattle.rows.specs.Row as read
+use Rattle.rows.proofs.Laws.Flat.{pixel-ordinary, flat-starts, flat-done, flat-again}
+use Rattle.rows.proofs.Laws.Row.{mark-by, kind-channels, chans-starts, chans-again, chans-done, row-by-width, row-channels}
+use Rattle.runs.specs.Channel.{code}
+use Rattle.runs.specs.Row.{isCoded, channel, codedRow, rowOf}
+use Rattle.runs.proofs.Laws.Place.{spread-append, drop-next, drop-past, bytes-there}
+use Rattle.runs.proofs.Laws.Row.{length-channel, coded-widths, row-coded, row-flat, coded-size, flat-size}
+use Rattle.runs.proofs.Laws.ChannelBack.{channel-there}
+use Rattle.runs.proofs.Laws.Weave.{bytes-four, weave, mark-covered}
+
+-- ---- a coded row
+
+module _ (px : List ℕ) (p w : ℕ) (src : List ℕ) where
+  -- one channel more is read
+  next-channel : (i at k : ℕ) (store rest : List ℕ) (a : Taken × List ℕ) → k < 4 → drop at src ≡ code (channel px i w) ++ rest
+      → Runs (read.chansTurn src w) read.chansOut (4 - k) (read.chans at k store) a
+      → Runs (read.chansTurn src w) read.chansOut (4 - (k + 1)) (read.chans (at + length (code (channel px i w))) (k + 1) (spread 4 store k (channel px i w))) a
+  next-channel i at k store rest a h e r =
+      chans-again src w at k store a r _ _ h (sym (channel-there src at store k w (channel px i w) rest e (length-channel px i w))) _ refl
+
+  channels-there : (at : ℕ) (store rest : List ℕ)
+      → drop at src ≡ (code (channel px p w) ++ (code (channel px (p + 1) w) ++ (code (channel px (p + 2) w) ++ code (channel px (p + 3) w)))) ++ rest
+      → (next : ℕ) → 4 + next ≡ at + length (codedRow px p w) → (Done next, spread 1 store 0 (bytesFrom px p (4 * w))) ≡ read.channelsOf src at store w
+  channels-there at store rest e next size =
+      let a = read.channelsOf src at store w in
+      let c0 : List ℕ = code (channel px p w) in
+      let c1 : List ℕ = code (channel px (p + 1) w) in
+      let c2 : List ℕ = code (channel px (p + 2) w) in
+      let c3 : List ℕ = code (channel px (p + 3) w) in
+      let e0 : drop at src ≡ c0 ++ (c1 ++ (c2 ++ (c3 ++ rest))) = e ∙ simp append-assoc in
+      let e1 : drop (at + length c0) src ≡ c1 ++ (c2 ++ (c3 ++ rest)) = drop-past src at c0 _ e0 in
+      let e2 : drop (at + length c0 + length c1) src ≡ c2 ++ (c3 ++ rest) = drop-past src _ c1 _ e1 in
+      let e3 : drop (at + length c0 + length c1 + length c2) src ≡ c3 ++ rest = drop-past src _ c2 _ e2 in
+      let r1 = next-channel p at 0 store _ a (lit< tt) e0 (chans-starts src at store w) in
+      let r2 = next-channel (p + 1) _ 1 _ _ a (lit< tt) e1 r1 in
+      let r3 = next-channel (p + 2) _ 2 _ _ a (lit< tt) e2 r2 in
+      let r4 = next-channel (p + 3) _ 3 _ _ a (lit< tt) e3 r3 in
+      let ends : next ≡ at + length c0 + length c1 + length c2 + length c3 = omega (arith, coded-size px p w) in
+      ap (λ (i : ℕ). (Done i, spread 1 store 0 (bytesFrom px p (4 * w)))) ends
+      ∙ ap (λ (l : List ℕ). (Done (at + length c0 + length c1 + length c2 + length c3), l)) (sym (weave px store 0 p w))
+      ∙ chans-done src w _ _ _ a r4 (lit≤ tt)
+
+  not-flat : isCoded w ≡ true → false ≡ read.isFlatWidth w
+  unfolding read.isFlatWidth
+  not-flat t =
+      let widths = coded-widths w t in
+      simp (le-ltb w 8 (widths .0), le-ltb 32767 w (widths .1))
+
+  coded-there : (at : ℕ) (store rest : List ℕ) → isCoded w ≡ true → drop at src ≡ codedRow px p w ++ rest
+      → (Done (at + length (codedRow px p w)), spread 1 store 0 (bytesFrom px p (4 * w))) ≡ read.rowOf src at store w
+  unfolding codedRow
+  coded-there at store rest t e =
+      let widths = coded-widths w t in
+      let m0 = drop-next src at 2 _ e in
+      let m1 = drop-next src (at + 1) 2 _ (m0 .2) in
+      let m2 = drop-next src (at + 1 + 1) (w / 256) _ (m1 .2) in
+      let m3 = drop-next src (at + 1 + 1 + 1) (w % 256) _ (m2 .2) in
+      let two : at + 1 + 1 ≡ at + 2 = omega arith in
+      let four : at + 1 + 1 + 1 + 1 ≡ at + 4 = omega arith in
+      let room : at + 3 < length src = omega (arith, m3 .0) in
+      let third : getD src (at + 2) 0 < 128 = omega (arith, rw two at (m2 .1)) in
+      let kind = kind-channels src at store (m0 .1) room _ (mark-by _ _ (m1 .1)) (lt-ltb _ _ third) in
+      let body = channels-there (at + 4) _ rest (rw four at (m3 .2)) (at + length (codedRow px p w)) (omega arith) in
+      ap (λ (l : List ℕ). (Done (at + length (codedRow px p w)), l)) (sym (mark-covered px store _ _ p w (omega arith)))
+      ∙ row-channels src at store w false (not-flat t) refl _ _ kind _ (at + 4) refl body
+
+-- ---- a flat row
+
+-- no pixel of the row starts 1, 1, 1
+abbrev pub NoRepeat : List ℕ → ℕ → ℕ → Type 0
+NoRepeat px p w = (i : ℕ) → i < w → isRepeat px (p + 4 * i) ≡ false
+
+-- the same four bytes are the same kind of pixel
+same-repeat : (src px : List ℕ) (at p : ℕ) → bytesFrom src at 4 ≡ bytesFrom px p 4 → isRepeat src at ≡ isRepeat px p
+unfolding isRepeat bytesFrom
+same-repeat src px at p e =
+    let two : (i : ℕ) → i + 2 ≡ i + 1 + 1 = λ i. omega arith in
+    let b0 : getD src at 0 ≡ getD px p 0 = ap (λ (l : List ℕ). getD l 0 0) e in
+    let b1 : getD src (at + 1) 0 ≡ getD px (p + 1) 0 = ap (λ (l : List ℕ). getD l 1 0) e in
+    let b2 : getD src (at + 1 + 1) 0 ≡ getD px (p + 1 + 1) 0 = ap (λ (l : List ℕ). getD l 2 0) e in
+    rw (two at, two p, b0, b1, b2)
+
+flat-there : (px src : List ℕ) (p n at place : ℕ) (store rest : List ℕ) (a : Taken × List ℕ) → drop at src ≡ bytesFrom px p (4 * n) ++ rest → NoRepeat px p n
+    → Runs (flatTurn src 0) flatOut (length src - at) (flat at place n 0 store) a → (Done (at + 4 * n), spread 1 store place (bytesFrom px p (4 * n))) ≡ a
+unfolding spread bytesFrom
+flat-there px src p zero at place store rest a e none r =
+    ap (λ (i : ℕ). (Done i, store)) (omega arith) ∙ flat-done src 0 at place 0 0 store a r (omega arith)
+flat-there px src p (suc n) at place store rest a e none r =
+    let pixel : List ℕ = bytesFrom px p 4 in
+    let others : List ℕ = bytesFrom px (p + 4) (4 * n) in
+    let here : drop at src ≡ pixel ++ (others ++ rest) = e ∙ ap (λ (l : List ℕ). l ++ rest) (bytes-four px p n) ∙ append-assoc pixel others rest in
+    let same : bytesFrom src at 4 ≡ pixel = bytes-there src at pixel (others ++ rest) here in
+    let after : drop (at + 4) src ≡ others ++ rest = drop-past src at pixel (others ++ rest) here in
+    let room : at + 4 ≤ length src = omega (arith, ap length here, length-drop at src) in
+    let first : p + 4 * 0 ≡ p = omega arith in
+    let ordinary : isRepeat src at ≡ false = same-repeat src px at p same ∙ (rw first at (none 0 (omega arith))) in
+    let left : suc n - 1 ≡ n = omega arith in
+    let shifted : (i : ℕ) → p + 4 * suc i ≡ p + 4 + 4 * i = λ i. omega arith in
+    let later : NoRepeat px (p + 4) n = λ i h. ap (isRepeat px) (sym (shifted i)) ∙ none (suc i) (omega arith) in
+    let turned = flat-again src 0 at place (suc n) 0 store a r (omega arith) (omega arith) (length src - at) refl _ (omega arith)
+    (pixel-ordinary src 0 at place (suc n) 0 store (spread 1 store place (bytesFrom src at 4)) (isRepeat src at) room refl refl ordinary) in
+    let ends : at + 4 * suc n ≡ at + 4 + 4 * n = omega arith in
+    let stored : spread 1 store place (bytesFrom px p (4 * suc n)) ≡ spread 1 (spread 1 store place (bytesFrom src at 4)) (place + 4) others =
+    ap (spread 1 store place) (bytes-four px p n) ∙ spread-append 1 store place pixel others ∙ ap (λ (l : List ℕ). spread 1 (spread 1 store place l) (place + 4) others) (sym same) in
+    ap (λ (i : ℕ). (Done i, spread 1 store place (bytesFrom px p (4 * suc n)))) ends
+    ∙ ap (λ (l : List ℕ). (Done (at + 4 + 4 * n), l)) stored
+    ∙ flat-there px src (p + 4) n (at + 4) (place + 4) _ rest a after later (rw left at turned)
+
+-- ---- either row
+
+is-flat : (w : ℕ) → isCoded w ≡ false → true ≡ read.isFlatWidth w
+unfolding read.isFlatWidth
+is-flat w e = go (leb 8 w) (leb w 32767) refl refl e
+  where
+    go : (a b : Bool) → leb 8 w ≡ a → leb w 32767 ≡ b → a && b ≡ false → true ≡ read.isFlatWidth w
+    go true true ea eb f = absurd (false≢true (sym f))
+    go true false ea eb f = simp (lt-ltb 32767 w (leb-false w 32767 eb), le-ltb w 8 (leb-true 8 w ea))
+    go false b ea eb f = simp (lt-ltb w 8 (leb-false 8 w ea))
+
+-- A row is read back: exactly its bytes are taken, and the pixels' bytes are in the first 4w places of the store, the rest of which is as
+-- it was. A flat row must have no pixel that the reader takes for a repeat.
+pub row-back : (px pre rest store : List ℕ) (p w : ℕ) → (isCoded w ≡ false → NoRepeat px p w)
+    → read.rowOf (pre ++ (rowOf px p w ++ rest)) (length pre) store w ≡ (Done (length pre + length (rowOf px p w)), spread 1 store 0 (bytesFrom px p (4 * w)))
+row-back px pre rest store p w none = go (isCoded w) refl
+  where
+    src : List ℕ
+    src = pre ++ (rowOf px p w ++ rest)
+
+    here : drop (length pre) src ≡ rowOf px p w ++ rest
+    here = drop-append-seam pre (rowOf px p w ++ rest)
+
+    go : (t : Bool) → isCoded w ≡ t → read.rowOf src (length pre) store w ≡ (Done (length pre + length (rowOf px p w)), spread 1 store 0 (bytesFrom px p (4 * w)))
+    go true t =
+        sym (coded-there px p w src (length pre) store rest t (here ∙ ap (λ (l : List ℕ). l ++ rest) (row-coded px p w t)))
+        ∙ ap (λ (l : List ℕ). (Done (length pre + length l), spread 1 store 0 (bytesFrom px p (4 * w)))) (sym (row-coded px p w t))
+    go false t =
+        let a = flatOf src (length pre) store 0 w in
+        let flat-row = flat-there px src p w (length pre) 0 store rest a (here ∙ ap (λ (l : List ℕ). l ++ rest) (row-flat px p w t)) (none t) (flat-starts src (length pre) store 0 w) in
+        sym (row-by-width src (length pre) store w true (is-flat w t) _ refl flat-row)
+        ∙ ap (λ (n : ℕ). (Done (length pre + n), spread 1 store 0 (bytesFrom px p (4 * w)))) (sym (flat-size px p w t))

@@ -1,0 +1,156 @@
+-- The laws that the writing loops ask: what is left to store, stored, gives what was to be stored.
+use mathlib.Core.Path.{_≡_, refl, sym, ap, _∙_}
+use mathlib.Core.Logic.{_⊎_, ⊎-elim}
+use mathlib.Core.List.{List, [], _∷_, _++_}
+use Prim.Native.Nat.{ℕ, zero, suc, _+_, _-_, _*_, _/_, _%_, _≤_, _<_, min}
+use native.Mathlib.Omega.{arith}
+use lib.ListN.{length, getD, take, drop, set, length-append, drop-of-length-le}
+use lib.Seq.{take-all}
+use Rattle.steps.specs.Place.{spread}
+use Rattle.runs.specs.Channel.{literals, code, gather, stretch, cut}
+use Rattle.runs.specs.Row.{channel, mark, codedRow}
+use Rattle.runs.specs.Part.{runOf, Parted}
+use Rattle.runs.proofs.Laws.Channel.{literals-packet, length-literals}
+use Rattle.runs.proofs.Laws.Place.{spread-append}
+use Rattle.runs.proofs.Laws.Row.{length-channel, drop-channel, take-channel, getD-channel}
+use Rattle.runs.proofs.Laws.Cut.{lt-or-ge}
+use Rattle.runs.proofs.Laws.Part.{run-some}
+
+-- once p has been stored from o on, what is left to store
+spread-turn : (out d : List ℕ) (o e : ℕ) (p q : List ℕ) → d ≡ spread 1 out o p → e ≡ o + length p → spread 1 out o (p ++ q) ≡ spread 1 d e q
+spread-turn out d o e p q a b =
+    let next : o + 1 * length p ≡ e = omega arith in
+    spread-append 1 out o p q ∙ rw (a, next)
+
+-- ---- nothing is left
+
+pub none-left : (f : List ℕ → List ℕ) (px : List ℕ) (a left : ℕ) → f [] ≡ [] → left ≤ 0 → f (channel px a left) ≡ []
+none-left f px a zero z h = z
+none-left f px a (suc n) z h = absurd (omega arith)
+
+pub code-nil : code [] ≡ []
+unfolding code gather cut stretch
+code-nil = refl
+
+pub stored-end : (f : List ℕ → List ℕ) (px : List ℕ) (a left : ℕ) (out w : List ℕ) (o : ℕ) → f [] ≡ [] → left ≤ 0 → spread 1 out o (f (channel px a left)) ≡ w → out ≡ w
+unfolding spread
+stored-end f px a left out w o z h e = sym (ap (spread 1 out o) (none-left f px a left z h)) ∙ e
+
+-- ---- a byte
+
+pub copy-turn : (px out : List ℕ) (a left o : ℕ) → 0 < left → spread 1 out o (channel px a left) ≡ spread 1 (set out o (getD px a 0)) (o + 1) (channel px (a + 4) (left - 1))
+unfolding spread
+copy-turn px out a zero o h = absurd (omega arith)
+copy-turn px out a (suc n) o h =
+    let m : n ≡ suc n - 1 = omega arith in
+    ap (λ (k : ℕ). spread 1 (set out o (getD px a 0)) (o + 1) (channel px (a + 4) k)) m
+
+-- ---- literals
+
+take-min : (n : ℕ) (xs : List ℕ) → take n xs ≡ take (min n (length xs)) xs
+take-min n xs =
+    ⊎-elim
+    (λ h. let e : n ≡ min n (length xs) = omega arith in ap (λ (k : ℕ). take k xs) e)
+    (λ h. take-all n xs h ∙ sym (take-all (min n (length xs)) xs (omega arith)))
+    (lt-or-ge n (length xs))
+
+drop-min : (n : ℕ) (xs : List ℕ) → drop n xs ≡ drop (min n (length xs)) xs
+drop-min n xs =
+    ⊎-elim
+    (λ h. let e : n ≡ min n (length xs) = omega arith in ap (λ (k : ℕ). drop k xs) e)
+    (λ h. drop-of-length-le xs h ∙ sym (drop-of-length-le xs {i = min n (length xs)} (omega arith)))
+    (lt-or-ge n (length xs))
+
+-- the first packet of literals
+literals-first : (xs : List ℕ) (c : ℕ) → 0 < length xs → c ≡ min 128 (length xs) → literals 0 xs ≡ c ∷ (take c xs ++ literals 0 (drop c xs))
+literals-first [] c h e = absurd (omega arith)
+literals-first (x ∷ xs) c h e =
+    ap (λ (k : ℕ). k ∷ x ∷ literals 127 xs) (sym e)
+    ∙ ap (λ (l : List ℕ). c ∷ x ∷ l) (literals-packet 127 xs)
+    ∙ ap (λ (l : List ℕ). c ∷ (l ++ literals 0 (drop 127 xs))) (take-min 128 (x ∷ xs) ∙ ap (λ (k : ℕ). take k (x ∷ xs)) (sym e))
+    ∙ ap (λ (l : List ℕ). c ∷ (take c (x ∷ xs) ++ literals 0 l)) (drop-min 128 (x ∷ xs) ∙ ap (λ (k : ℕ). drop k (x ∷ xs)) (sym e))
+
+literals-turn : (px : List ℕ) (a left c : ℕ) → 0 < left → c ≡ min 128 left → literals 0 (channel px a left) ≡ c ∷ (channel px a c ++ literals 0 (channel px (a + 4 * c) (left - c)))
+literals-turn px a left c h e =
+    let n = length-channel px a left in
+    literals-first (channel px a left) c (omega arith) (omega arith)
+    ∙ ap (λ (l : List ℕ). c ∷ (l ++ literals 0 (drop c (channel px a left)))) (take-channel px a c left (omega arith))
+    ∙ ap (λ (l : List ℕ). c ∷ (channel px a c ++ literals 0 l)) (drop-channel px a c left)
+
+pub literals-size : (px : List ℕ) (at n : ℕ) → length (literals 0 (channel px at n)) ≡ n + (n + 127) / 128
+literals-size px at n = omega (arith, length-literals 0 (channel px at n) (omega arith), length-channel px at n)
+
+-- a packet of literals is stored
+pub literals-store : (px out d : List ℕ) (a left c o : ℕ) → 0 < left → c ≡ min 128 left → d ≡ spread 1 (set out o c) (o + 1) (channel px a c)
+    → spread 1 out o (literals 0 (channel px a left)) ≡ spread 1 d (o + 1 + c) (literals 0 (channel px (a + 4 * c) (left - c)))
+unfolding spread
+literals-store px out d a left c o h e w =
+    ap (spread 1 out o) (literals-turn px a left c h e)
+    ∙ spread-turn (set out o c) d (o + 1) (o + 1 + c) (channel px a c) (literals 0 (channel px (a + 4 * c) (left - c))) w (ap (λ (k : ℕ). o + 1 + k) (sym (length-channel px a c)))
+
+-- ---- a run
+
+pub run-store : (out : List ℕ) (to v n : ℕ) → 0 < n → set (set out to (128 + n)) (to + 1) v ≡ spread 1 out to (runOf v n)
+unfolding spread
+run-store out to v n h = sym (ap (spread 1 out to) (run-some v n h))
+
+-- ---- a part
+
+run-channel : (px : List ℕ) (at left i n : ℕ) → i + n ≤ left → runOf (getD (channel px at left) i 0) n ≡ runOf (getD px (at + 4 * i) 0) n
+run-channel px at left i zero h = refl
+run-channel px at left i (suc n) h = ap (λ (v : ℕ). runOf v (suc n)) (getD-channel px at i left (omega arith))
+
+module _ (px : List ℕ) (at left l s r : ℕ) (P : Parted left (channel px at left) l s r) where
+  -- what a part of a channel is coded as, and what is left of the channel
+  pub part-code : code (channel px at left) ≡ literals 0 (channel px at l) ++ (runOf (getD px (at + 4 * l) 0) s ++ (runOf (getD px (at + 4 * (l + s)) 0) r ++ code (channel px (at + 4 * (l + s + r)) (left - (l + s + r)))))
+  part-code =
+      let w = P .within in
+      P .parted
+      ∙ ap (λ (z : List ℕ). literals 0 z ++ (runOf (getD (channel px at left) l 0) s ++ (runOf (getD (channel px at left) (l + s) 0) r ++ code (drop (l + s + r) (channel px at left))))) (take-channel px at l left (omega arith))
+      ∙ ap (λ (z : List ℕ). literals 0 (channel px at l) ++ (z ++ (runOf (getD (channel px at left) (l + s) 0) r ++ code (drop (l + s + r) (channel px at left))))) (run-channel px at left l s (omega arith))
+      ∙ ap (λ (z : List ℕ). literals 0 (channel px at l) ++ (runOf (getD px (at + 4 * l) 0) s ++ (z ++ code (drop (l + s + r) (channel px at left))))) (run-channel px at left (l + s) r (omega arith))
+      ∙ ap (λ (z : List ℕ). literals 0 (channel px at l) ++ (runOf (getD px (at + 4 * l) 0) s ++ (runOf (getD px (at + 4 * (l + s)) 0) r ++ code z))) (drop-channel px at (l + s + r) left)
+
+  pub part-size : length (code (channel px at left)) ≡ length (literals 0 (channel px at l)) + (length (runOf (getD px (at + 4 * l) 0) s) + (length (runOf (getD px (at + 4 * (l + s)) 0) r) + length (code (channel px (at + 4 * (l + s + r)) (left - (l + s + r))))))
+  part-size = ap length part-code ∙ simp length-append
+
+-- a part is stored
+pub part-store : (px d₀ d₁ d₂ d₃ : List ℕ) (at left l s r o₀ o₁ o₂ o₃ : ℕ) → Parted left (channel px at left) l s r
+    → (o₁ ≡ o₀ + length (literals 0 (channel px at l))) × (d₁ ≡ spread 1 d₀ o₀ (literals 0 (channel px at l)))
+    → (o₂ ≡ o₁ + length (runOf (getD px (at + 4 * l) 0) s)) × (d₂ ≡ spread 1 d₁ o₁ (runOf (getD px (at + 4 * l) 0) s))
+    → (o₃ ≡ o₂ + length (runOf (getD px (at + 4 * (l + s)) 0) r)) × (d₃ ≡ spread 1 d₂ o₂ (runOf (getD px (at + 4 * (l + s)) 0) r))
+    → spread 1 d₀ o₀ (code (channel px at left)) ≡ spread 1 d₃ o₃ (code (channel px (at + 4 * (l + s + r)) (left - (l + s + r))))
+part-store px d₀ d₁ d₂ d₃ at left l s r o₀ o₁ o₂ o₃ P a b c =
+    ap (spread 1 d₀ o₀) (part-code px at left l s r P)
+    ∙ spread-turn d₀ d₁ o₀ o₁ (literals 0 (channel px at l)) _ (a .1) (a .0)
+    ∙ spread-turn d₁ d₂ o₁ o₂ (runOf (getD px (at + 4 * l) 0) s) _ (b .1) (b .0)
+    ∙ spread-turn d₂ d₃ o₂ o₃ (runOf (getD px (at + 4 * (l + s)) 0) r) _ (c .1) (c .0)
+
+-- ---- a row
+
+pub mark-store : (out : List ℕ) (to w : ℕ) → set (set (set (set out to 2) (to + 1) 2) (to + 2) (w / 256)) (to + 3) (w % 256) ≡ spread 1 out to (mark w)
+unfolding spread
+mark-store out to w =
+    let two : to + 2 ≡ to + 1 + 1 = omega arith in
+    let three : to + 3 ≡ to + 1 + 1 + 1 = omega arith in
+    rw (two, three)
+
+pub row-store : (px d₀ d₁ d₂ d₃ d₄ d₅ : List ℕ) (at w o₀ o₂ o₃ o₄ : ℕ)
+    → d₁ ≡ spread 1 d₀ o₀ (mark w)
+    → (o₂ ≡ o₀ + 4 + length (code (channel px at w))) × (d₂ ≡ spread 1 d₁ (o₀ + 4) (code (channel px at w)))
+    → (o₃ ≡ o₂ + length (code (channel px (at + 1) w))) × (d₃ ≡ spread 1 d₂ o₂ (code (channel px (at + 1) w)))
+    → (o₄ ≡ o₃ + length (code (channel px (at + 2) w))) × (d₄ ≡ spread 1 d₃ o₃ (code (channel px (at + 2) w)))
+    → d₅ ≡ spread 1 d₄ o₄ (code (channel px (at + 3) w))
+    → d₅ ≡ spread 1 d₀ o₀ (codedRow px at w)
+unfolding codedRow
+row-store px d₀ d₁ d₂ d₃ d₄ d₅ at w o₀ o₂ o₃ o₄ m a b c e =
+    let p : List ℕ = code (channel px at w) in
+    let q : List ℕ = code (channel px (at + 1) w) in
+    let r : List ℕ = code (channel px (at + 2) w) in
+    let s : List ℕ = code (channel px (at + 3) w) in
+    e
+    ∙ sym
+    (spread-turn d₀ d₁ o₀ (o₀ + 4) (mark w) (p ++ (q ++ (r ++ s))) m refl
+    ∙ spread-turn d₁ d₂ (o₀ + 4) o₂ p (q ++ (r ++ s)) (a .1) (a .0)
+    ∙ spread-turn d₂ d₃ o₂ o₃ q (r ++ s) (b .1) (b .0)
+    ∙ spread-turn d₃ d₄ o₃ o₄ r s (c .1) (c .0))

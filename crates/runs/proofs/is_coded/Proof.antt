@@ -1,0 +1,13 @@
+-- `runs::is_coded` meets its contract: the test on the way says which case it is.
+use borrow.Author.Tests.{le-leb, lt-leb}
+use Rattle.runs.proofs.is_coded.Statement.{statement}
+use Rattle.runs.proofs.is_coded.Tie as tie
+
+returns : tie.Need-returns
+returns c = simp (le-leb _ _ (c .if1 .taken))
+
+returns-2 : tie.Need-returns-2
+returns-2 c = simp (lt-leb _ _ (c .if1 .left))
+
+pub is-coded-spec : {M : Type 1} → statement M
+is-coded-spec = tie.close (tie.spec returns returns-2)

@@ -1,0 +1,40 @@
+-- One row as it is written, and the worst row, by document 01, "Rows written". A pixel is four bytes of px.
+use Prim.Native.Nat.{ℕ, zero, suc, _+_, _*_, _/_, _%_}
+use mathlib.Core.Bool.{Bool, _&&_}
+use mathlib.Core.List.{List, [], _∷_, _++_}
+use lib.ListN.{getD}
+use lib.Dec.{leb}
+use Rattle.steps.specs.Loop.{pick}
+use Rattle.steps.specs.Place.{bytesFrom}
+use Rattle.runs.specs.Channel.{code}
+
+-- widths 8 to 32,767
+abbrev pub isCoded : ℕ → Bool
+isCoded w = leb 8 w && leb w 32767
+
+-- the mark of a row of w pixels
+abbrev pub mark : ℕ → List ℕ
+mark w = 2 ∷ 2 ∷ (w / 256) ∷ (w % 256) ∷ []
+
+-- a channel of w pixels: one byte in four, the first at place at
+abbrev pub channel : List ℕ → ℕ → ℕ → List ℕ
+channel px at zero = []
+channel px at (suc w) = getD px at 0 ∷ channel px (at + 4) w
+
+-- the mark, then four channels
+unfoldable pub codedRow : List ℕ → ℕ → ℕ → List ℕ
+codedRow px at w =
+    mark w
+    ++ (code (channel px at w) ++ (code (channel px (at + 1) w) ++ (code (channel px (at + 2) w) ++ code (channel px (at + 3) w))))
+
+-- a row of w pixels, the first at place at; other widths are written flat
+unfoldable pub rowOf : List ℕ → ℕ → ℕ → List ℕ
+rowOf px at w = pick (isCoded w) (codedRow px at w) (bytesFrom px at (4 * w))
+
+-- n bytes and a count for each 128 of them: the most that a channel of n bytes takes
+abbrev pub worstChannel : ℕ → ℕ
+worstChannel n = n + (n + 127) / 128
+
+-- the most that a row of w pixels takes
+abbrev pub worstRow : ℕ → ℕ
+worstRow w = pick (isCoded w) (4 + 4 * worstChannel w) (4 * w)
