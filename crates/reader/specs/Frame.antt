@@ -1,6 +1,7 @@
 -- The rows of a frame, one after another, by a rule for one row and a rule for one pixel.
 use Prim.Native.Nat.{ℕ, _+_, _*_}
 use mathlib.Core.List.{List}
+use lib.ListN.{replicate}
 use lib.Dec.{ltb}
 use lib.Ieee.{Float}
 use Rattle.steps.specs.Loop.{pick, Turn, more, halt, run}
@@ -16,6 +17,10 @@ pub data Outcome : Type 0 where
 -- of the input, a place in it, the row store and the width: the outcome, and the row store afterwards
 abbrev pub RowRule : Type 0
 RowRule = List ℕ → ℕ → List ℕ → ℕ → Outcome × List ℕ
+
+-- "the first 4w bytes of the row store are set to 0, once"
+abbrev pub cleared : ℕ → List ℕ → List ℕ
+cleared width store = spread 1 store 0 (replicate (4 * width) 0)
 
 -- how far the rows are: the next place in the input, the next row, the row store and the output
 pub record Rows : Type 0 where

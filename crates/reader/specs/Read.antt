@@ -2,10 +2,9 @@
 use Prim.Native.Nat.{ℕ, _*_}
 use mathlib.Core.List.{List, [], _∷_, _++_}
 use mathlib.Core.Path.{_≡_}
-use lib.ListN.{length, replicate}
+use lib.ListN.{length}
 use lib.Dec.{ltb, eqb}
 use lib.Ieee.{Float}
-use Rattle.steps.specs.Place.{spread}
 use Rattle.steps.specs.Answer.{Answer, done, refused, refuse, refusalOf, Check, check, checked}
 use Rattle.pixel.specs.Rgbe.{crateUnits, pixelOf}
 use Rattle.header.specs.declared.Head.{Head}
@@ -14,7 +13,7 @@ use Rattle.rows.specs.Row.{rowOf}
 use Rattle.rows.specs.declared.Taken.{Taken}
 use Rattle.rows.specs.declared.Taken.the-variants.{Done, Short}
 use Rattle.reader.specs.Samples.{SampleRule}
-use Rattle.reader.specs.Frame.{Outcome, next, fault, RowRule, Left, rowsOf}
+use Rattle.reader.specs.Frame.{Outcome, next, fault, RowRule, Left, cleared, rowsOf}
 use Rattle.reader.specs.declared.ReadAnswer.{ReadAnswer}
 use Rattle.reader.specs.declared.ReadAnswer.the-variants as read
 
@@ -35,10 +34,6 @@ taking head taken = record { width = head .width; height = head .height; taken =
 abbrev pub answerOf : Head → Answer ℕ → Answer Head
 answerOf head (done taken) = done (taking head taken)
 answerOf head (refused number place) = refused number place
-
--- "the first 4w bytes of the row store are set to 0, once"
-abbrev pub cleared : ℕ → List ℕ → List ℕ
-cleared width store = spread 1 store 0 (replicate (4 * width) 0)
 
 -- the answer, the output and the row store after the rows
 abbrev pub framed : Head → Left → Answer Head × List Float × List ℕ

@@ -22,8 +22,8 @@ use Rattle.rows.specs.Row.{rowOf}
 use Rattle.rows.specs.declared.Taken.{Taken}
 use Rattle.rows.specs.declared.Taken.the-variants.{Done, Short}
 use Rattle.reader.specs.Samples.{samplesFrom}
-use Rattle.reader.specs.Frame.{Left, rows, rowTurn, noRows, rowsOf}
-use Rattle.reader.specs.Read.{crateRow, cratePixel, outcomeOf, taking, cleared, framed, readBy, frameAnswer, paperOf, ReadPromise}
+use Rattle.reader.specs.Frame.{Left, cleared, rows, rowTurn, noRows, rowsOf}
+use Rattle.reader.specs.Read.{crateRow, cratePixel, outcomeOf, taking, framed, readBy, frameAnswer, paperOf, ReadPromise}
 use Rattle.reader.specs.declared.ReadAnswer.{ReadAnswer}
 use Rattle.reader.specs.declared.ReadAnswer.the-variants as read
 use Rattle.reader.proofs.Laws.Frame.{rows-done, rows-fault, rows-again}
