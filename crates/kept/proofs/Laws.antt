@@ -1,0 +1,2 @@
+-- The theorems over the definitions in `specs/`, a file for each of its files.
+pub mod Skies

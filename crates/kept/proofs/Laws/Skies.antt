@@ -1,0 +1,23 @@
+-- The sample skies marked P hold of the definitions: the checker computes each.
+use mathlib.Core.Path.{refl}
+use lib.Ieee.{round, size}
+use Rattle.steps.specs.Loop.{run}
+use Rattle.steps.specs.Place.{bytesFrom, spread}
+use Rattle.pixel.specs.Units.{ofUnits, mag}
+use Rattle.pixel.specs.Rgbe.{crateShift, crateScale, crateUnits, docScale, docUnits, peak, tooBright, bytesOf, packedOf}
+use Rattle.header.specs.Lines.{upTo, past, same, isFirst, lineTurn, linesEnd}
+use Rattle.header.specs.Fields.{isBlank, trimStart, trimEnd, fieldsAt, axesOf}
+use Rattle.header.specs.Sizes.{unsigned, isDigit, allDigits, valueFrom, isNumber, isSize, sizeOf}
+use Rattle.header.specs.Head.{fieldsOf, headChecks, headOf}
+use Rattle.rows.specs.Repeat.{lasts, copied, repeatTurn, repeatOf}
+use Rattle.rows.specs.Flat.{fourTo, isRepeat, repeated, pixelOf, goesOn, flatTurn, flatOf}
+use Rattle.rows.specs.Row.{isFlatWidth, kindOf, rowOf}
+use Rattle.runs.specs.Channel.{grow, cut, stretch, gather, code}
+use Rattle.reader.specs.Samples.{samplesFrom}
+use Rattle.reader.specs.Frame.{rowTurn, rowsOf}
+use Rattle.reader.specs.Read.{crateRow, cratePixel, readBy}
+use Rattle.kept.specs.Skies.{skies, Each}
+
+pub all-skies : Each skies
+unfolding round size run bytesFrom spread ofUnits mag crateShift crateScale crateUnits docScale docUnits peak tooBright bytesOf packedOf upTo past same isFirst lineTurn linesEnd isBlank trimStart trimEnd fieldsAt axesOf unsigned isDigit allDigits valueFrom isNumber isSize sizeOf fieldsOf headChecks headOf lasts copied repeatTurn repeatOf fourTo isRepeat repeated pixelOf goesOn flatTurn flatOf isFlatWidth kindOf rowOf grow cut stretch gather code samplesFrom rowTurn rowsOf crateRow cratePixel readBy
+all-skies = (refl, (refl, (refl, (refl, (refl, (refl, (refl, (refl, (refl, (refl, (refl, (refl, (refl, (refl, (refl, tt)))))))))))))))

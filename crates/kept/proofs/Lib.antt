@@ -1,0 +1,2 @@
+-- `Laws` has the theorems over the definitions in `specs/`, a file for each of its files.
+pub mod Laws

@@ -1,0 +1,2 @@
+-- What the inspector is handed: sentences over the definitions that the calls promise.
+pub mod Skies
