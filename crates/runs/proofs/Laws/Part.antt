@@ -1,6 +1,6 @@
 -- The part that the scan finds: what gathers is one short run or literals, and a long run may follow.
 use mathlib.Core.Path.{_≡_, refl, sym, ap, _∙_, subst}
-use mathlib.Core.Logic.{_⊎_, ⊎-elim}
+use mathlib.Core.Logic.{⊎-elim}
 use mathlib.Core.Bool.{Bool, true, false}
 use mathlib.Core.List.{List, [], _∷_, _++_, append-assoc, append-nil}
 use Prim.Native.Nat.{ℕ, zero, suc, _+_, _-_, _*_, _≤_, _<_}
@@ -11,7 +11,7 @@ use lib.Seq.{drop-drop, getD-drop, getD-take, length-take-le}
 use Rattle.steps.specs.Loop.{pick}
 use Rattle.runs.specs.Channel.{run, cut, literals, packet, stretch, gather, code}
 use Rattle.runs.specs.Row.{channel}
-use Rattle.runs.specs.Part.{Four, oneRun, runOf, Gathers, Front, Parted}
+use Rattle.runs.specs.Part.{FourEqual, oneRun, runOf, Gathers, Stops, Share, Front, Parted}
 use Rattle.runs.proofs.Laws.Channel.{gather-long}
 use Rattle.runs.proofs.Laws.OneRun.{one-run, not-one-run}
 use Rattle.runs.proofs.Laws.Row.{length-channel, drop-channel, take-channel}
@@ -29,7 +29,7 @@ run-some v (suc n) h = refl
 -- ---- the part
 
 -- h bytes gather, of which l are literals and s a short run
-module _ (xs : List ℕ) (h l s : ℕ) (G : Gathers xs h) (el : l ≡ pick (oneRun (take h xs)) 0 h) (es : s ≡ pick (oneRun (take h xs)) h 0) where
+module _ (xs : List ℕ) (h l s : ℕ) (G : Gathers xs h) (S : Share (take h xs) h l s) where
   abbrev ys : List ℕ
   ys = take h xs
 
@@ -37,21 +37,21 @@ module _ (xs : List ℕ) (h l s : ℕ) (G : Gathers xs h) (el : l ≡ pick (oneR
   size = length-take-le h xs (G .within)
 
   pub sum-of : l + s ≡ h
-  sum-of = go (oneRun ys) el es
+  sum-of = go (oneRun ys) (S .0) (S .1)
     where
       go : (t : Bool) → l ≡ pick t 0 h → s ≡ pick t h 0 → l + s ≡ h
       go true a b = omega arith
       go false a b = omega arith
 
   pub short-of : s ≤ 3
-  short-of = go (oneRun ys) refl es
+  short-of = go (oneRun ys) refl (S .1)
     where
       go : (t : Bool) → oneRun ys ≡ t → s ≡ pick t h 0 → s ≤ 3
       go true e b = omega (arith, one-run ys e .1, size)
       go false e b = omega arith
 
   stretch-of : stretch (cut ys) ≡ literals 0 (take l xs) ++ runOf (getD xs l 0) s
-  stretch-of = go (oneRun ys) refl el es
+  stretch-of = go (oneRun ys) refl (S .0) (S .1)
     where
       go : (t : Bool) → oneRun ys ≡ t → l ≡ pick t 0 h → s ≡ pick t h 0 → stretch (cut ys) ≡ literals 0 (take l xs) ++ runOf (getD xs l 0) s
       go true e a b =
@@ -94,28 +94,24 @@ module _ (xs : List ℕ) (h l s : ℕ) (G : Gathers xs h) (el : l ≡ pick (oneR
 -- ---- the same, of a channel, over the values that the code has in hand
 
 -- four equal bytes follow what gathers, where the channel does not end
-pub long-follows : (px : List ℕ) (at left h : ℕ) → (h ≡ left) ⊎ ((h + 4 ≤ left) × Four px (at + 4 * h) (getD px (at + 4 * h) 0)) → (h ≡ left → ⊥)
-    → (h + 4 ≤ left) × Four px (at + 4 * h) (getD px (at + 4 * h) 0)
+pub long-follows : (px : List ℕ) (at left h : ℕ) → Stops px at left h → (h ≡ left → ⊥) → (h + 4 ≤ left) × FourEqual px (at + 4 * h)
 long-follows px at left h e n = ⊎-elim (λ q. absurd (n q)) (λ q. q) e
 
-module _ (px : List ℕ) (at left h l s r : ℕ) (G : Gathers (channel px at left) h) (el : l ≡ pick (oneRun (channel px at h)) 0 h) (es : s ≡ pick (oneRun (channel px at h)) h 0) where
+module _ (px : List ℕ) (at left h l s r : ℕ) (G : Gathers (channel px at left) h) (S : Share (channel px at h) h l s) where
   abbrev xs : List ℕ
   xs = channel px at left
 
   within : h ≤ left
   within = omega (arith, G .within, length-channel px at left)
 
-  el′ : l ≡ pick (oneRun (take h xs)) 0 h
-  el′ = el ∙ ap (λ (y : List ℕ). pick (oneRun y) 0 h) (sym (take-channel px at h left within))
-
-  es′ : s ≡ pick (oneRun (take h xs)) h 0
-  es′ = es ∙ ap (λ (y : List ℕ). pick (oneRun y) h 0) (sym (take-channel px at h left within))
+  share : Share (take h xs) h l s
+  share = subst (λ (y : List ℕ). Share y h l s) (sym (take-channel px at h left within)) S
 
   sum : l + s ≡ h
-  sum = sum-of xs h l s G el′ es′
+  sum = sum-of xs h l s G share
 
   short : s ≤ 127
-  short = omega (arith, short-of xs h l s G el′ es′)
+  short = omega (arith, short-of xs h l s G share)
 
   pub parted-end : 0 < left → h ≡ left → r ≡ 0 → Parted left xs l s r
   parted-end n e z = record {
@@ -123,7 +119,7 @@ module _ (px : List ℕ) (at left h l s r : ℕ) (G : Gathers (channel px at lef
     within = omega (arith, sum);
     short = short;
     small = omega arith;
-    parted = rw z (found-end xs h l s G el′ es′ (e ∙ sym (length-channel px at left)));
+    parted = rw z (found-end xs h l s G share (e ∙ sym (length-channel px at left)));
   }
 
   pub parted-long : (n : ℕ) → r ≡ n → Front (left - h) (channel px (at + 4 * h) (left - h)) n → Parted left xs l s r
@@ -136,5 +132,5 @@ module _ (px : List ℕ) (at left h l s r : ℕ) (G : Gathers (channel px at lef
         within = omega (arith, sum, F .within);
         short = short;
         small = omega (arith, F .small);
-        parted = rw e (found-long xs h l s G el′ es′ n follows (F .long));
+        parted = rw e (found-long xs h l s G share n follows (F .long));
       }
