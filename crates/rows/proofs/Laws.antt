@@ -3,6 +3,7 @@ pub mod Turns
 pub mod Kept
 pub mod Fourth
 pub mod Channel
+pub mod Repeat
 pub mod Flat
 pub mod Row
 pub mod Bounds

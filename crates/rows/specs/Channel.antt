@@ -15,6 +15,7 @@ pub record Chan : Type 0 where
   pub done : ℕ
   pub store : List ℕ
 
+-- that record, from its three fields
 abbrev pub chan : ℕ → ℕ → List ℕ → Chan
 chan at done store = record { at = at; done = done; store = store }
 
@@ -61,6 +62,7 @@ channelTurn src channel width x =
     (pick (ltb (x .at) (length src)) (more (spanAt src channel width x)) (halt (Short, x .store)))
     (halt (Done (x .at), x .store))
 
+-- where the turns are used up, which never happens
 abbrev pub channelOut : Chan → Taken × List ℕ
 channelOut x = (Short, x .store)
 

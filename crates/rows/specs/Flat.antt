@@ -1,4 +1,4 @@
--- A flat part of a row, with the old runs in the crate's fashion, by document 01, "Rows read".
+-- A flat part of a row, by document 01, "Rows read".
 use Prim.Native.Nat.{ℕ, _+_, _-_, _*_, _^_, min}
 use mathlib.Core.List.{List}
 use mathlib.Core.Bool.{Bool, _&&_}
@@ -6,6 +6,7 @@ use lib.ListN.{length, getD}
 use lib.Dec.{ltb, leb, eqb}
 use Rattle.steps.specs.Loop.{pick, Turn, more, halt, run}
 use Rattle.steps.specs.Place.{bytesFrom, spread}
+use Rattle.rows.specs.Repeat.{repeatOf}
 use Rattle.rows.specs.declared.Taken.{Taken}
 use Rattle.rows.specs.declared.Taken.the-variants.{Done, Short}
 
@@ -17,6 +18,7 @@ pub record Flat : Type 0 where
   pub shift : ℕ
   pub store : List ℕ
 
+-- that record, from its five fields
 abbrev pub flat : ℕ → ℕ → ℕ → ℕ → List ℕ → Flat
 flat at place wanted shift store = record { at = at; place = place; wanted = wanted; shift = shift; store = store }
 
@@ -27,40 +29,6 @@ fourTo src at store place = spread 1 store place (bytesFrom src at (min 4 (lengt
 -- "If the first three are 1"
 unfoldable pub isRepeat : List ℕ → ℕ → Bool
 isRepeat src at = eqb (getD src at 0) 1 && (eqb (getD src (at + 1) 0) 1 && eqb (getD src (at + 2) 0) 1)
-
--- ---- A repeat
-
--- how far a repeat is: the current place in the store, how many pixels are wanted, what is left of the count, and the store
-pub record Rep : Type 0 where
-  pub place : ℕ
-  pub wanted : ℕ
-  pub count : ℕ
-  pub store : List ℕ
-
-abbrev pub rep : ℕ → ℕ → ℕ → List ℕ → Rep
-rep place wanted count store = record { place = place; wanted = wanted; count = count; store = store }
-
--- "While pixels are wanted, the place is beyond byte 4 of the part and the count lasts": `start` is where the part starts in the store
-unfoldable pub lasts : ℕ → ℕ → ℕ → ℕ → Bool
-lasts start place wanted count = ltb 0 wanted && (ltb (start + 4) place && ltb 0 count)
-
--- "the four bytes before the place are copied to bytes 4 to 7 of the part"
-unfoldable pub copied : ℕ → ℕ → List ℕ → List ℕ
-copied start place store = spread 1 store (start + 4) (bytesFrom store (place - 4) 4)
-
--- "the place moves four on and four pixels fewer are wanted"; at the end, the place, the pixels wanted and the store
-unfoldable pub repeatTurn : ℕ → Rep → Turn Rep (ℕ × ℕ × List ℕ)
-repeatTurn start x =
-    pick (lasts start (x .place) (x .wanted) (x .count))
-    (more (rep (x .place + 4) (x .wanted - 4) (x .count - 1) (copied start (x .place) (x .store))))
-    (halt (x .place, x .wanted, x .store))
-
-abbrev pub repeatOut : Rep → ℕ × ℕ × List ℕ
-repeatOut x = (x .place, x .wanted, x .store)
-
--- a repeat count at work. Each turn but the last takes one off the count, so the turns never run out
-unfoldable pub repeatOf : ℕ → ℕ → ℕ → ℕ → List ℕ → ℕ × ℕ × List ℕ
-repeatOf start place wanted count store = run (repeatTurn start) repeatOut (count + 1) (rep place wanted count store)
 
 -- ---- A pixel whose four bytes are stored
 
@@ -74,6 +42,7 @@ repeated src start x =
 abbrev pub ordinary : Flat → Flat
 ordinary x = flat (x .at + 4) (x .place + 4) (x .wanted - 1) 0 (x .store)
 
+-- the one or the other; `start` is where the part starts in the store
 unfoldable pub pixelOf : List ℕ → ℕ → Flat → Flat
 pixelOf src start x = pick (isRepeat src (x .at)) (repeated src start x) (ordinary x)
 
@@ -93,6 +62,7 @@ flatTurn src start x =
     (more (pixelOf src start (flat (x .at) (x .place) (x .wanted) (x .shift) stored))))
     (halt (Done (x .at), x .store))
 
+-- where the turns are used up, which never happens
 abbrev pub flatOut : Flat → Taken × List ℕ
 flatOut x = (Short, x .store)
 

@@ -1,4 +1,5 @@
 -- "Rows read" of document 01: one row of the input into the row store.
 pub mod Channel
+pub mod Repeat
 pub mod Flat
 pub mod Row

@@ -46,15 +46,17 @@ pub(crate) fn read_kind(src: &[u8], at: usize, store: &mut [u8]) -> Kind
     if src.len() <= at + 1 {
         return Kind::Missing;
     }
-    store[1] = src[at + 1];
+    let second = src[at + 1];
+    store[1] = second;
     if src.len() <= at + 2 {
         return Kind::Missing;
     }
-    store[2] = src[at + 2];
+    let third = src[at + 2];
+    store[2] = third;
     if src.len() <= at + 3 {
         return Kind::Missing;
     }
-    if is_mark(src[at + 1], src[at + 2]) {
+    if is_mark(second, third) {
         return Kind::Channels { next: at + 4 };
     }
     store[0] = 2;

@@ -3,6 +3,7 @@ mod channel;
 mod flat;
 mod fourth;
 mod kind;
+mod repeat;
 
 use kind::Kind;
 ghost use mathlib.Core.Path.{_≡_};
@@ -10,7 +11,7 @@ ghost use Prim.Native.Nat.{_*_, _≤_};
 ghost use lib.ListN.{length};
 ghost use Rattle.rows.specs.Row.{rowOf};
 
-// What reading a row, or a part of one, answers: the next place in the input, or that the bytes end too early.
+// What reading a row, or a part of one, answers: the next place in the input, or refusal 9, that the bytes end too early.
 pub enum Taken {
     Done { next: usize },
     Short,

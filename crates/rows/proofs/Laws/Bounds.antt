@@ -4,28 +4,30 @@ use Prim.Native.Nat.{ℕ, _+_, _-_, _*_, min, _<_, _≤_}
 use native.Mathlib.Omega.{arith}
 use mathlib.Core.List.{List}
 use mathlib.Core.Bool.{Bool, false}
-use mathlib.Core.Path.{_≡_, refl, sym, ap, subst, _∙_}
+use mathlib.Core.Path.{_≡_, refl, sym, ap, subst}
 use borrow.Author.Tests.{leb-false}
 use lib.Dec.{leb, eqb}
-use lib.ListN.{length, getD, drop, set, replicate, length-replicate}
+use lib.ListN.{length, getD, length-replicate}
 use lib.Seq.{getD-drop}
-use Rattle.steps.specs.Loop.{Turn}
-use Rattle.steps.specs.Place.{bytesFrom, spread}
+use Rattle.steps.specs.Loop.{pick}
 use Rattle.rows.proofs.Laws.Turns.{by-test, Leads, run-keeps}
 use Rattle.rows.proofs.Laws.Kept.{Kept, kept-same, kept-then, kept-set, kept-spread, length-bytes}
 use Rattle.rows.proofs.Laws.Channel.{channel-cases, at-onward}
-use Rattle.rows.proofs.Laws.Flat.{flat-cases, pixel-at, repeat-cases}
+use Rattle.rows.proofs.Laws.Repeat.{repeat-cases}
+use Rattle.rows.proofs.Laws.Flat.{flat-cases, pixel-at}
 use Rattle.rows.proofs.Laws.Row.{chans-cases, not-flat}
 use Rattle.rows.specs.declared.Taken.{Taken}
 use Rattle.rows.specs.declared.Taken.the-variants.{Done, Short}
 use Rattle.rows.specs.declared.kind.Kind.{Kind}
 use Rattle.rows.specs.declared.kind.Kind.the-variants as kind
-use Rattle.rows.specs.Channel.{Chan, chan, channelOf, channelOut, channelTurn, isRun, spanAt, spanBytes, spanLength, spanOf}
-use Rattle.rows.specs.Flat.{Flat, Rep, copied, flat, flatOf, flatOut, flatTurn, fourTo, isRepeat, pixelOf, rep, repeatOf, repeatOut, repeatTurn, repeated}
-use Rattle.rows.specs.Row.{Chans, chans, channelsOf, chansOut, chansTurn, isFlatWidth, isMark, kindOf, restOf, rowOf}
+use Rattle.rows.specs.Channel.{Chan, channelOf, channelOut, channelTurn, isRun, spanAt, spanBytes, spanLength, spanOf}
+use Rattle.rows.specs.Repeat.{Rep, copied, repeatOf, repeatOut, repeatTurn}
+use Rattle.rows.specs.Flat.{Flat, flat, flatOf, flatOut, flatTurn, fourTo, isRepeat, pixelOf, repeated}
+use Rattle.rows.specs.Row.{Chans, channelsOf, chansOut, chansTurn, isFlatWidth, isMark, kindOf, restOf, rowOf}
 
 -- ---- From a place and a store to a later place and store
 
+-- the store is kept from `limit` on, and p is neither before `at` nor past the end
 record On (src : List ℕ) (limit at : ℕ) (store : List ℕ) (p : ℕ) (s : List ℕ) : Type 0 where
   pub kept : Kept limit store s
   pub onward : at ≤ length src → (at ≤ p) × (p ≤ length src)
@@ -35,24 +37,24 @@ record Sound (src : List ℕ) (limit at : ℕ) (store : List ℕ) (a : Taken × 
   pub kept : Kept limit store (a .1)
   pub onward : (next : ℕ) → a .0 ≡ Done next → at ≤ length src → (at ≤ next) × (next ≤ length src)
 
-module _ (src : List ℕ) (limit at : ℕ) (store : List ℕ) where
+module _ {src : List ℕ} {limit at : ℕ} {store : List ℕ} where
   on-start : On src limit at store at store
   on-start = record { kept = kept-same limit store; onward = λ h. omega arith }
 
-  on-to : (p q : ℕ) (s s′ : List ℕ) → On src limit at store p s → Kept limit s s′ → p ≤ q → q ≤ length src → On src limit at store q s′
-  on-to p q s s′ o k h l = record { kept = kept-then (o .kept) k; onward = λ a. omega (arith, o .onward a) }
+  on-to : {p q : ℕ} {s s′ : List ℕ} → On src limit at store p s → Kept limit s s′ → p ≤ q → q ≤ length src → On src limit at store q s′
+  on-to o k h l = record { kept = kept-then (o .kept) k; onward = λ a. omega (arith, o .onward a) }
 
-  sound-done : (p : ℕ) (s : List ℕ) → On src limit at store p s → Sound src limit at store (Done p, s)
-  sound-done p s o = record { kept = o .kept; onward = λ next e h. let f : p ≡ next = cc in omega (arith, o .onward h) }
+  sound-done : {p : ℕ} {s : List ℕ} → On src limit at store p s → Sound src limit at store (Done p, s)
+  sound-done {p} o = record { kept = o .kept; onward = λ next e h. let f : p ≡ next = cc in omega (arith, o .onward h) }
 
-  sound-short : (s : List ℕ) → Kept limit store s → Sound src limit at store (Short, s)
-  sound-short s k = record { kept = k; onward = λ next e h. let z : _≡_ {A = ℕ} 0 1 = cc in omega arith }
+  sound-short : {s : List ℕ} → Kept limit store s → Sound src limit at store (Short, s)
+  sound-short k = record { kept = k; onward = λ next e h. let z : _≡_ {A = ℕ} 0 1 = cc in omega arith }
 
-  sound-on : (p : ℕ) (s : List ℕ) → Sound src limit at store (Done p, s) → On src limit at store p s
-  sound-on p s r = record { kept = r .kept; onward = λ h. r .onward p refl h }
+  sound-on : {p : ℕ} {s : List ℕ} → Sound src limit at store (Done p, s) → On src limit at store p s
+  sound-on {p} r = record { kept = r .kept; onward = λ h. r .onward p refl h }
 
-  sound-then : (p : ℕ) (s : List ℕ) (a : Taken × List ℕ) → On src limit at store p s → Sound src limit p s a → Sound src limit at store a
-  sound-then p s a o r = record { kept = kept-then (o .kept) (r .kept); onward = λ next e h. omega (arith, o .onward h, r .onward next e (o .onward h .1)) }
+  sound-then : {p : ℕ} {s : List ℕ} {a : Taken × List ℕ} → On src limit at store p s → Sound src limit p s a → Sound src limit at store a
+  sound-then o r = record { kept = kept-then (o .kept) (r .kept); onward = λ next e h. omega (arith, o .onward h, r .onward next e (o .onward h .1)) }
 
 -- ---- A channel
 
@@ -74,7 +76,7 @@ at-kept src channel width x h k =
 channel-sound : (src : List ℕ) (at : ℕ) (store : List ℕ) (channel width : ℕ) → channel < 4
     → Sound src (4 * width) at store (channelOf src at store channel width)
 unfolding channelOf
-channel-sound src at store channel width h = run-keeps (channelTurn src channel width) channelOut P Q step (λ x p. sound-short src (4 * width) at store (x .store) (p .0 .kept)) _ _ (on-start src (4 * width) at store, omega arith)
+channel-sound src at store channel width h = run-keeps (channelTurn src channel width) channelOut P Q step (λ x p. sound-short (p .0 .kept)) _ _ (on-start, omega arith)
   where
     P : Chan → Type 0
     P x = On src (4 * width) at store (x .at) (x .store) × (x .done ≤ width)
@@ -87,13 +89,13 @@ channel-sound src at store channel width h = run-keeps (channelTurn src channel 
         channel-cases src channel width x (Leads P Q)
         (λ d l. let k = at-kept src channel width x h d in
         let o = at-onward src channel width x l in
-        (on-to src (4 * width) at store (x .at) _ (x .store) _ (p .0) (k .0) (omega arith) (o .1), k .1))
-        (λ d l. sound-short src (4 * width) at store (x .store) (p .0 .kept))
-        (λ d. sound-done src (4 * width) at store (x .at) (x .store) (p .0))
+        (on-to (p .0) (k .0) (omega arith) (o .1), k .1))
+        (λ d l. sound-short (p .0 .kept))
+        (λ d. sound-done (p .0))
 
 channels-sound : (src : List ℕ) (at : ℕ) (store : List ℕ) (width : ℕ) → Sound src (4 * width) at store (channelsOf src at store width)
 unfolding channelsOf
-channels-sound src at store width = run-keeps (chansTurn src width) chansOut P Q step (λ x p. sound-short src (4 * width) at store (x .store) (p .kept)) _ _ (on-start src (4 * width) at store)
+channels-sound src at store width = run-keeps (chansTurn src width) chansOut P Q step (λ x p. sound-short (p .kept)) _ _ on-start
   where
     P : Chans → Type 0
     P x = On src (4 * width) at store (x .at) (x .store)
@@ -103,15 +105,14 @@ channels-sound src at store width = run-keeps (chansTurn src width) chansOut P Q
 
     read : (x : Chans) (a : Taken × List ℕ) → P x → x .channel < 4 → a ≡ channelOf src (x .at) (x .store) (x .channel) width → Q a
     read x a p h e =
-        sound-then src (4 * width) at store (x .at) (x .store) a p
-        (subst (Sound src (4 * width) (x .at) (x .store)) (sym e) (channel-sound src (x .at) (x .store) (x .channel) width h))
+        sound-then p (subst (Sound src (4 * width) (x .at) (x .store)) (sym e) (channel-sound src (x .at) (x .store) (x .channel) width h))
 
     step : (x : Chans) → P x → Leads P Q (chansTurn src width x)
     step x p =
         chans-cases src width x (Leads P Q)
-        (λ next s h e. sound-on src (4 * width) at store next s (read x (Done next, s) p h e))
+        (λ next s h e. sound-on (read x (Done next, s) p h e))
         (λ s h e. read x (Short, s) p h e)
-        (sound-done src (4 * width) at store (x .at) (x .store) p)
+        (sound-done p)
 
 -- ---- A flat part
 
@@ -152,7 +153,7 @@ pixel-fits src limit start x h k =
 flat-sound : (src : List ℕ) (limit at : ℕ) (store : List ℕ) (start wanted : ℕ) → start + 4 * wanted ≤ limit
     → Sound src limit at store (flatOf src at store start wanted)
 unfolding flatOf
-flat-sound src limit at store start wanted h = run-keeps (flatTurn src start) flatOut P Q step (λ x p. sound-short src limit at store (x .store) (p .0 .kept)) _ _ (on-start src limit at store, h)
+flat-sound src limit at store start wanted h = run-keeps (flatTurn src start) flatOut P Q step (λ x p. sound-short (p .0 .kept)) _ _ (on-start, h)
   where
     P : Flat → Type 0
     P x = On src limit at store (x .at) (x .store) × (x .place + 4 * x .wanted ≤ limit)
@@ -171,9 +172,9 @@ flat-sound src limit at store start wanted h = run-keeps (flatTurn src start) fl
         flat-cases src start x (Leads P Q)
         (λ w l. let f = pixel-fits src limit start (stored x) w (p .1) in
         let e = pixel-at src start (stored x) in
-        (on-to src limit at store (x .at) _ (x .store) _ (p .0) (kept-then (four x p w) (f .0)) (omega arith) (omega arith), f .1))
-        (λ w. sound-short src limit at store _ (kept-then (p .0 .kept) (four x p w)))
-        (sound-done src limit at store (x .at) (x .store) (p .0))
+        (on-to (p .0) (kept-then (four x p w) (f .0)) (omega arith) (omega arith), f .1))
+        (λ w. sound-short (kept-then (p .0 .kept) (four x p w)))
+        (sound-done (p .0))
 
 -- ---- The row
 
@@ -184,37 +185,41 @@ Begun src limit at store kind.Flat s = On src limit at store at s
 Begun src limit at store (kind.Pixel next) s = On src limit at store next s
 Begun src limit at store (kind.Channels next) s = On src limit at store next s
 
+-- the cases of `kindOf`, over any tests: `one`, `two` and `four` are the store with so many of the bytes
+module _ (src : List ℕ) (limit at : ℕ) (store one two four : List ℕ) where
+  abbrev L : Kind × List ℕ → Type 0
+  L a = Begun src limit at store (a .0) (a .1)
+
+  begun : (no-1 is-2 no-2 no-3 no-4 mark : Bool) → Kept limit store one → Kept limit store two → Kept limit store four → (no-4 ≡ false → at + 4 ≤ length src)
+      → L (pick no-1 (kind.Missing, store) (pick is-2 (pick no-2 (kind.Missing, store) (pick no-3 (kind.Missing, one) (pick no-4 (kind.Missing, two)
+      (pick mark (kind.Channels (at + 4), two) (kind.Pixel (at + 4), four))))) (kind.Flat, store)))
+  begun no-1 is-2 no-2 no-3 no-4 mark k₁ k₂ k₄ h =
+      by-test L no-1 (λ _. kept-same limit store) (λ _.
+      by-test L is-2 (λ _.
+      by-test L no-2 (λ _. kept-same limit store) (λ _.
+      by-test L no-3 (λ _. k₁) (λ _.
+      by-test L no-4 (λ _. k₂) (λ t.
+      by-test L mark
+      (λ _. on-to on-start k₂ (omega arith) (h t))
+      (λ _. on-to on-start k₄ (omega arith) (h t))))))
+      (λ _. on-start))
+
 kind-begun : (src : List ℕ) (limit at : ℕ) (store : List ℕ) → 4 ≤ limit → Begun src limit at store (kindOf src at store .0) (kindOf src at store .1)
 unfolding kindOf
 kind-begun src limit at store h =
-    let second = getD src (at + 1) 0 in
-    let third = getD src (at + 2) 0 in
-    let one = set store 1 second in
-    let two = set one 2 third in
-    let k₁ : Kept limit store one = kept-set limit store 1 second (omega arith) in
-    let k₂ : Kept limit store two = kept-then k₁ (kept-set limit one 2 third (omega arith)) in
-    let k₃ = kept-then k₂ (kept-set limit two 0 2 (omega arith)) in
-    let k₄ = kept-then k₃ (kept-set limit (set two 0 2) 3 (getD src (at + 3) 0) (omega arith)) in
-    by-test L (leb (length src) at) (λ _. kept-same limit store) (λ _.
-    by-test L (eqb (getD src at 0) 2) (λ _.
-    by-test L (leb (length src) (at + 1)) (λ _. kept-same limit store) (λ _.
-    by-test L (leb (length src) (at + 2)) (λ _. k₁) (λ _.
-    by-test L (leb (length src) (at + 3)) (λ _. k₂) (λ t.
-    let l = leb-false (length src) (at + 3) t in
-    by-test L (isMark second third)
-    (λ _. on-to src limit at store at (at + 4) store two (on-start src limit at store) k₂ (omega arith) (omega arith))
-    (λ _. on-to src limit at store at (at + 4) store _ (on-start src limit at store) k₄ (omega arith) (omega arith))))))
-    (λ _. on-start src limit at store))
-  where
-    L : Kind × List ℕ → Type 0
-    L a = Begun src limit at store (a .0) (a .1)
+    let k₁ = kept-set limit store 1 (getD src (at + 1) 0) (omega arith) in
+    let k₂ = kept-then k₁ (kept-set limit _ 2 (getD src (at + 2) 0) (omega arith)) in
+    let k₃ = kept-then k₂ (kept-set limit _ 0 2 (omega arith)) in
+    let k₄ = kept-then k₃ (kept-set limit _ 3 (getD src (at + 3) 0) (omega arith)) in
+    begun src limit at store _ _ _ (leb (length src) at) (eqb (getD src at 0) 2) (leb (length src) (at + 1)) (leb (length src) (at + 2)) (leb (length src) (at + 3))
+    (isMark (getD src (at + 1) 0) (getD src (at + 2) 0)) k₁ k₂ k₄ (λ t. omega (arith, leb-false (length src) (at + 3) t))
 
 rest-sound : (src : List ℕ) (at : ℕ) (store : List ℕ) (width : ℕ) → 1 ≤ width → (k : Kind) (s : List ℕ) → Begun src (4 * width) at store k s
     → Sound src (4 * width) at store (restOf src at width k s)
-rest-sound src at store width h kind.Missing s b = sound-short src (4 * width) at store s b
-rest-sound src at store width h kind.Flat s b = sound-then src (4 * width) at store at s _ b (flat-sound src (4 * width) at s 0 width (omega arith))
-rest-sound src at store width h (kind.Pixel next) s b = sound-then src (4 * width) at store next s _ b (flat-sound src (4 * width) next s 4 (width - 1) (omega arith))
-rest-sound src at store width h (kind.Channels next) s b = sound-then src (4 * width) at store next s _ b (channels-sound src next s width)
+rest-sound src at store width h kind.Missing s b = sound-short b
+rest-sound src at store width h kind.Flat s b = sound-then b (flat-sound src (4 * width) at s 0 width (omega arith))
+rest-sound src at store width h (kind.Pixel next) s b = sound-then b (flat-sound src (4 * width) next s 4 (width - 1) (omega arith))
+rest-sound src at store width h (kind.Channels next) s b = sound-then b (channels-sound src next s width)
 
 row-sound : (src : List ℕ) (at : ℕ) (store : List ℕ) (width : ℕ) → Sound src (4 * width) at store (rowOf src at store width)
 unfolding rowOf

@@ -8,7 +8,7 @@ use lib.Dec.{ltb}
 use lib.ListN.{length, getD, replicate}
 use Rattle.steps.specs.Loop.{Turn, more, halt, run}
 use Rattle.steps.specs.Place.{bytesFrom, spread}
-use Rattle.steps.proofs.Laws.Loop.{Runs, runs-start, runs-more, runs-halt}
+use Rattle.steps.proofs.Laws.Loop.{Runs, runs-start, runs-more}
 use Rattle.rows.proofs.Laws.Turns.{by-test, Falls, never-out}
 use Rattle.rows.specs.declared.Taken.{Taken}
 use Rattle.rows.specs.declared.Taken.the-variants.{Done, Short}

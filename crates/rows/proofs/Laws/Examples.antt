@@ -1,12 +1,12 @@
 -- Worked examples of document 01, computed by the definitions.
-use Prim.Native.Nat.{ℕ}
-use mathlib.Core.List.{List, [], _∷_}
+use mathlib.Core.List.{[], _∷_}
 use mathlib.Core.Path.{_≡_, refl}
 use lib.ListN.{replicate}
 use Rattle.steps.specs.Loop.{run}
 use Rattle.steps.specs.Place.{bytesFrom, spread}
 use Rattle.rows.specs.Channel.{channelOf, channelTurn, isRun, spanAt, spanBytes, spanLength, spanOf, spanTaken}
-use Rattle.rows.specs.Flat.{copied, flatOf, flatTurn, fourTo, goesOn, isRepeat, lasts, pixelOf, repeatOf, repeatTurn, repeated}
+use Rattle.rows.specs.Repeat.{copied, lasts, repeatOf, repeatTurn}
+use Rattle.rows.specs.Flat.{flatOf, flatTurn, fourTo, goesOn, isRepeat, pixelOf, repeated}
 use Rattle.rows.specs.Row.{isFlatWidth, rowOf}
 use Rattle.rows.specs.declared.Taken.the-variants.{Done, Short}
 

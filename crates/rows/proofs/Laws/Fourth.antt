@@ -1,8 +1,8 @@
 -- The bytes that are there and then zeros are the literals, where a missing byte is read as 0.
 use Prim.Native.Nat.{ℕ, zero, suc, _+_, _-_, _*_, min, _<_, _≤_}
 use native.Mathlib.Omega.{arith}
-use mathlib.Core.List.{List, _∷_}
-use mathlib.Core.Path.{_≡_, refl, ap, _∙_}
+use mathlib.Core.List.{List}
+use mathlib.Core.Path.{_≡_, refl, _∙_}
 use lib.ListN.{length, getD, set, replicate, List·getD-eq-default}
 use Rattle.steps.specs.Place.{bytesFrom, spread}
 

@@ -1,7 +1,7 @@
--- What holds of a turn by its cases, and what every run keeps.
+-- What holds of a choice and of a turn by its cases, and what every run keeps.
 use Prim.{Unit}
 use Prim.Native.Nat.{ℕ, zero, suc, _<_}
-use mathlib.Core.Bool.{Bool, true, false}
+use mathlib.Core.Bool.{Bool, true, false, _&&_, false≢true}
 use mathlib.Core.Path.{_≡_, refl, subst}
 use Rattle.steps.specs.Loop.{pick, Turn, more, halt, lead, run}
 use Rattle.steps.proofs.Laws.Loop.{out-free}
@@ -10,6 +10,15 @@ use Rattle.steps.proofs.Laws.Loop.{out-free}
 pub by-test : {A : Type 0} (L : A → Type 0) (b : Bool) {x y : A} → (b ≡ true → L x) → (b ≡ false → L y) → L (pick b x y)
 by-test L true f g = f refl
 by-test L false f g = g refl
+
+-- both tests of two
+pub and-left : (a b : Bool) → (a && b) ≡ true → a ≡ true
+and-left true b e = refl
+and-left false b e = e
+
+pub and-right : (a b : Bool) → (a && b) ≡ true → b ≡ true
+and-right true b e = e
+and-right false b e = absurd (false≢true e)
 
 -- a turn goes on with a state of which P holds, or halts with an answer of which Q holds
 abbrev pub Leads : {S A : Type 0} → (S → Type 0) → (A → Type 0) → Turn S A → Type 0

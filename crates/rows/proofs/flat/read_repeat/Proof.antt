@@ -16,8 +16,8 @@ repeat-count-requires c κs = search needs
 repeat-pixels-requires : tie.Need-repeat-pixels-requires
 repeat-pixels-requires c κs = search needs
 
-add-t11 : tie.Need-add-t11
-add-t11 c = search needs
+add-t10 : tie.Need-add-t10
+add-t10 c = search needs
 
 same-length : tie.Need-same-length
 same-length c = search needs
@@ -33,6 +33,6 @@ read-repeat-spec =
     shared-slice-read-repeat-count
     repeat-count-requires
     repeat-pixels-requires
-    add-t11
+    add-t10
     same-length
     returns)

@@ -21,11 +21,11 @@ add-if3 c = search needs
 returns-3 : tie.Need-returns-3
 returns-3 c = search kind-one
 
-add-store : tie.Need-add-store
-add-store c = search needs
+add-second : tie.Need-add-second
+add-second c = search needs
 
-shared-slice-read-store : tie.Need-shared-slice-read-store
-shared-slice-read-store c = search needs
+shared-slice-read-second : tie.Need-shared-slice-read-second
+shared-slice-read-second c = search needs
 
 slice-write-store : tie.Need-slice-write-store
 slice-write-store c = search needs
@@ -39,11 +39,11 @@ same-length c = search needs
 returns-4 : tie.Need-returns-4
 returns-4 c = search kind-two
 
-add-store-2 : tie.Need-add-store-2
-add-store-2 c = search needs
+add-third : tie.Need-add-third
+add-third c = search needs
 
-shared-slice-read-store-2 : tie.Need-shared-slice-read-store-2
-shared-slice-read-store-2 c = search needs
+shared-slice-read-third : tie.Need-shared-slice-read-third
+shared-slice-read-third c = search needs
 
 slice-write-store-2 : tie.Need-slice-write-store-2
 slice-write-store-2 c = simp length-set (omega arith)
@@ -57,50 +57,38 @@ same-length-2 c = search needs
 returns-5 : tie.Need-returns-5
 returns-5 c = search kind-three
 
-add-is-mark : tie.Need-add-is-mark
-add-is-mark c = search needs
-
-shared-slice-read-is-mark : tie.Need-shared-slice-read-is-mark
-shared-slice-read-is-mark c = search needs
-
-add-is-mark-2 : tie.Need-add-is-mark-2
-add-is-mark-2 c = search needs
-
-shared-slice-read-is-mark-2 : tie.Need-shared-slice-read-is-mark-2
-shared-slice-read-is-mark-2 c = search needs
-
 is-mark-requires : tie.Need-is-mark-requires
 is-mark-requires c κs = search needs
 
-add-t17 : tie.Need-add-t17
-add-t17 c = search needs
+add-t16 : tie.Need-add-t16
+add-t16 c = search needs
 
 same-length-3 : tie.Need-same-length-3
 same-length-3 c = search needs
 
 returns-6 : tie.Need-returns-6
-returns-6 c = kind-channels _ _ _ (c .before .before .before .before .before .before .before .before .before .if2 .left) (c .before .before .before .before .if5 .left) _ (c .before .is-mark .ensures) (c .if6 .taken)
+returns-6 c = kind-channels _ _ _ (search needs) (omega arith) _ (c .before .is-mark .ensures) (c .if6 .taken)
 
 slice-write-store-3 : tie.Need-slice-write-store-3
 slice-write-store-3 c = simp length-set (omega arith)
 
-add-store-3 : tie.Need-add-store-3
-add-store-3 c = search needs
+add-store : tie.Need-add-store
+add-store c = search needs
 
-shared-slice-read-store-3 : tie.Need-shared-slice-read-store-3
-shared-slice-read-store-3 c = search needs
+shared-slice-read-store : tie.Need-shared-slice-read-store
+shared-slice-read-store c = search needs
 
 slice-write-store-4 : tie.Need-slice-write-store-4
 slice-write-store-4 c = search needs
 
-add-t8 : tie.Need-add-t8
-add-t8 c = search needs
+add-t10 : tie.Need-add-t10
+add-t10 c = search needs
 
 same-length-4 : tie.Need-same-length-4
 same-length-4 c = search needs
 
 returns-7 : tie.Need-returns-7
-returns-7 c = kind-pixel _ _ _ (c .before .before .before .before .before .before .before .before .before .before .if2 .left) (c .before .before .before .before .before .if5 .left) _ (c .before .before .is-mark .ensures) (c .before .if6 .left)
+returns-7 c = kind-pixel _ _ _ (search needs) (omega arith) _ (c .before .before .is-mark .ensures) (c .before .if6 .left)
 
 pub read-kind-spec : {M : Type 1} → statement M
 read-kind-spec =
@@ -111,30 +99,26 @@ read-kind-spec =
     returns-2
     add-if3
     returns-3
-    add-store
-    shared-slice-read-store
+    add-second
+    shared-slice-read-second
     slice-write-store
     add-if4
     same-length
     returns-4
-    add-store-2
-    shared-slice-read-store-2
+    add-third
+    shared-slice-read-third
     slice-write-store-2
     add-if5
     same-length-2
     returns-5
-    add-is-mark
-    shared-slice-read-is-mark
-    add-is-mark-2
-    shared-slice-read-is-mark-2
     is-mark-requires
-    add-t17
+    add-t16
     same-length-3
     returns-6
     slice-write-store-3
-    add-store-3
-    shared-slice-read-store-3
+    add-store
+    shared-slice-read-store
     slice-write-store-4
-    add-t8
+    add-t10
     same-length-4
     returns-7)

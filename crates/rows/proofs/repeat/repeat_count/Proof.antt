@@ -1,9 +1,9 @@
--- `rows::flat::repeat_count` meets its contract: nothing is shifted out.
+-- `rows::repeat::repeat_count` meets its contract: nothing is shifted out.
 use borrow.Author.Needs.{needs}
 use native.Mathlib.Omega.{arith}
 use lib.Pow.{shl-exact}
-use Rattle.rows.proofs.flat.repeat_count.Statement.{statement}
-use Rattle.rows.proofs.flat.repeat_count.Tie as tie
+use Rattle.rows.proofs.repeat.repeat_count.Statement.{statement}
+use Rattle.rows.proofs.repeat.repeat_count.Tie as tie
 
 wide-requires : tie.Need-wide-requires
 wide-requires c κs = search needs

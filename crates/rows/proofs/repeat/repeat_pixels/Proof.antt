@@ -1,13 +1,13 @@
--- `rows::flat::repeat_pixels` meets its contract. The invariant: the definition gives from here what it gives from the start.
+-- `rows::repeat::repeat_pixels` meets its contract. The invariant: the definition gives from here what it gives from the start.
 use borrow.Author.Needs.{needs}
 use mathlib.Core.Path.{_≡_}
 use Prim.Native.Nat.{_+_, _*_, _≤_}
 use lib.ListN.{length}
 use Rattle.steps.proofs.Laws.Loop.{Runs}
-use Rattle.rows.specs.Flat.{rep, repeatTurn, repeatOut, repeatOf}
-use Rattle.rows.proofs.Laws.Flat.{copy-beyond, copy-room, count-room, count-less, copy-fits, repeat-starts, repeat-again, repeat-end}
-use Rattle.rows.proofs.flat.repeat_pixels.Statement.{statement}
-use Rattle.rows.proofs.flat.repeat_pixels.Tie as tie
+use Rattle.rows.specs.Repeat.{rep, repeatTurn, repeatOut, repeatOf}
+use Rattle.rows.proofs.Laws.Repeat.{copy-beyond, copy-room, count-room, count-less, copy-fits, repeat-starts, repeat-again, repeat-end}
+use Rattle.rows.proofs.repeat.repeat_pixels.Statement.{statement}
+use Rattle.rows.proofs.repeat.repeat_pixels.Tie as tie
 
 abbrev Inv-loop : tie.InvT-loop
 Inv-loop store₀ start place wanted count to₀ left₀ n₀ store to left n =

@@ -1,8 +1,8 @@
--- `rows::flat::still` meets its contract: each `return` is a case of `lasts`.
+-- `rows::repeat::still` meets its contract: each `return` is a case of `lasts`.
 use borrow.Author.Needs.{needs}
-use Rattle.rows.proofs.Laws.Flat.{lasts-wanted, lasts-place, lasts-count}
-use Rattle.rows.proofs.flat.still.Statement.{statement}
-use Rattle.rows.proofs.flat.still.Tie as tie
+use Rattle.rows.proofs.Laws.Repeat.{lasts-wanted, lasts-place, lasts-count}
+use Rattle.rows.proofs.repeat.still.Statement.{statement}
+use Rattle.rows.proofs.repeat.still.Tie as tie
 
 returns : tie.Need-returns
 returns c = search lasts-wanted

@@ -1,10 +1,10 @@
--- `rows::flat::copy_back` meets its contract: the four stores are `copied`.
+-- `rows::repeat::copy_back` meets its contract: the four stores are `copied`.
 use borrow.Author.Needs.{needs}
 use native.Mathlib.Omega.{arith}
 use lib.ListN.{length-set}
-use Rattle.rows.proofs.Laws.Flat.{copied-is}
-use Rattle.rows.proofs.flat.copy_back.Statement.{statement}
-use Rattle.rows.proofs.flat.copy_back.Tie as tie
+use Rattle.rows.proofs.Laws.Repeat.{copied-is}
+use Rattle.rows.proofs.repeat.copy_back.Statement.{statement}
+use Rattle.rows.proofs.repeat.copy_back.Tie as tie
 
 sub-a : tie.Need-sub-a
 sub-a c = search needs
