@@ -16,7 +16,7 @@ fn run_length(n: usize) -> usize
 }
 
 // How many bytes the channel of w pixels that starts at `from` is written in.
-pub fn channel_length(px: &[u8], from: usize, w: usize) -> usize
+pub(crate) fn channel_length(px: &[u8], from: usize, w: usize) -> usize
     requires { ⌜ from + 4 * w < length (now px) + 4 ⌝ }
     ensures { λ r. ⌜ r ≡ length (code (channel (now (px .entry)) from w)) ⌝ }
 {
@@ -85,7 +85,7 @@ fn write_run(px: &[u8], at: usize, n: usize, out: &mut [u8], to: usize) -> usize
 }
 
 // Stores the channel of w pixels that starts at `from`, and returns the place after it.
-pub fn write_channel(px: &[u8], from: usize, w: usize, out: &mut [u8], to: usize) -> usize
+pub(crate) fn write_channel(px: &[u8], from: usize, w: usize, out: &mut [u8], to: usize) -> usize
     requires { ⌜ (from + 4 * w < length (now px) + 4) × (to + length (code (channel (now px) from w)) ≤ length (now out)) ⌝ }
     ensures { λ r. ⌜ Stored (now (out .entry)) to (code (channel (now (px .entry)) from w)) r (now (out .exit)) ⌝ }
 {

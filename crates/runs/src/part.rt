@@ -7,10 +7,10 @@ ghost use Rattle.runs.specs.Row.{channel};
 ghost use Rattle.runs.specs.Part.{Four, FourEqual, Equal, Skip, Gathers, Stops, Share, Front, Parted, oneRun};
 
 // How the front of a channel is written: so many literals, a short run, and a long run of so many bytes.
-pub struct Part {
-    pub literals: usize,
-    pub short: usize,
-    pub long: usize,
+pub(crate) struct Part {
+    pub(crate) literals: usize,
+    pub(crate) short: usize,
+    pub(crate) long: usize,
 }
 
 // How far to go past the last two neighbours that differ of the four bytes of a channel from `at` on; 0 where all are equal.
@@ -131,7 +131,7 @@ fn part_of(px: &[u8], at: usize, h: usize, long: usize) -> Part
 }
 
 // The part of a channel up to its first run of 4 or more, and that run.
-pub fn part_at(px: &[u8], at: usize, left: usize) -> Part
+pub(crate) fn part_at(px: &[u8], at: usize, left: usize) -> Part
     requires { ⌜ (0 < left) × (at + 4 * left < length (now px) + 4) ⌝ }
     ensures { λ r. ⌜ Parted left (channel (now (px .entry)) at left) (r .literals) (r .short) (r .long) ⌝ }
 {
