@@ -5,6 +5,7 @@ pub mod Channel
 pub mod Cut
 pub mod Gather
 pub mod Front
+pub mod OneRun
 pub mod Row
 pub mod Part
 pub mod Store

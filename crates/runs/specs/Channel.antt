@@ -9,12 +9,12 @@ use lib.Dec.{eqb, ltb, leb}
 pub data Run : Type 0 where
   run : ℕ → ℕ → Run
 
--- a run of n times v in hand, and then the bytes xs
+-- a run of n times v is in hand, and the bytes xs follow
 unfoldable pub grow : ℕ → ℕ → List ℕ → List Run
 grow v n [] = run v n ∷ []
 grow v n (x ∷ xs) = elim (eqb x v && ltb n 127) [ true ↦ grow v (suc n) xs | false ↦ run v n ∷ grow x 1 xs ]
 
--- a channel is cut from the left into equal runs of at most 127
+-- "A channel is cut from the left into equal runs of at most 127."
 unfoldable pub cut : List ℕ → List Run
 cut [] = []
 cut (x ∷ xs) = grow x 1 xs
@@ -24,23 +24,23 @@ abbrev pub bytes : List Run → List ℕ
 bytes [] = []
 bytes (run v n ∷ rs) = replicate n v ++ bytes rs
 
--- a run as it is written
+-- a run as it is written: the count, which is over 128, and the byte
 abbrev pub packet : ℕ → ℕ → List ℕ
 packet v n = (128 + n) ∷ v ∷ []
 
--- literals of at most 128, each with its count in front: k bytes more belong to the literals in hand
+-- "literals of at most 128", each packet with its count in front; k bytes more belong to the packet in hand
 abbrev pub literals : ℕ → List ℕ → List ℕ
 literals k [] = []
 literals zero (x ∷ xs) = min 128 (suc (length xs)) ∷ x ∷ literals 127 xs
 literals (suc k) (x ∷ xs) = x ∷ literals k xs
 
--- a gathered stretch that is one run of 2 or 3 is written as a run; any other is literals of at most 128
+-- "A gathered stretch that is one run of 2 or 3 is written as a run; any other is literals of at most 128."
 unfoldable pub stretch : List Run → List ℕ
 stretch [] = []
 stretch (run v n ∷ []) = elim (leb 2 n) [ true ↦ packet v n | false ↦ literals 0 (bytes (run v n ∷ [])) ]
 stretch (r ∷ s ∷ g) = literals 0 (bytes (r ∷ s ∷ g))
 
--- runs shorter than 4 gather until a run of 4 or more, or the end: g are gathered, and the runs rs follow
+-- "Runs shorter than 4 gather until a run of 4 or more, or the end.": the runs g are gathered, and the runs rs follow
 unfoldable pub gather : List Run → List Run → List ℕ
 gather g [] = stretch g
 gather g (run v n ∷ rs) =

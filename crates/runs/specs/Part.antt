@@ -1,10 +1,12 @@
 -- What the scan of a channel promises: how the front of the channel is written.
 use Prim.Native.Nat.{ℕ, zero, suc, _+_, _-_, _*_, _<_, _≤_}
 use mathlib.Core.Path.{_≡_}
+use mathlib.Core.Logic.{_⊎_}
 use mathlib.Core.Bool.{Bool, false, _&&_}
 use mathlib.Core.List.{List, [], _∷_, _++_}
 use lib.ListN.{length, getD, take, drop}
 use lib.Dec.{eqb}
+use Rattle.steps.specs.Loop.{pick}
 use Rattle.runs.specs.Channel.{run, cut, literals, packet, gather, code}
 
 -- ---- the search for four equal bytes
@@ -13,10 +15,14 @@ use Rattle.runs.specs.Channel.{run, cut, literals, packet, gather, code}
 abbrev pub Four : List ℕ → ℕ → ℕ → Type 0
 Four px at v = (getD px at 0 ≡ v) × (getD px (at + 4) 0 ≡ v) × (getD px (at + 8) 0 ≡ v) × (getD px (at + 12) 0 ≡ v)
 
+-- these four bytes are equal
+abbrev pub FourEqual : List ℕ → ℕ → Type 0
+FourEqual px at = Four px at (getD px at 0)
+
 -- of four bytes from place at on, byte r differs from the one before it; or r is 0, and they are equal
 pub record Skip (px : List ℕ) (at r : ℕ) : Type 0 where
   pub small : r ≤ 3
-  pub equal : r ≡ 0 → Four px at (getD px at 0)
+  pub equal : r ≡ 0 → FourEqual px at
   pub differ : 0 < r → getD px (at + 4 * (r - 1)) 0 ≡ getD px (at + 4 * r) 0 → ⊥
 
 -- the first h bytes of xs gather: they are cut into runs of at most 3
@@ -24,6 +30,10 @@ pub record Gathers (xs : List ℕ) (h : ℕ) : Type 0 where
   pub within : h ≤ length xs
   pub short : h ≤ 3 * length (cut (take h xs))
   pub gathers : code xs ≡ gather (cut (take h xs)) (cut (drop h xs))
+
+-- the search stops at byte r of n: at the end, or before four equal bytes
+abbrev pub Stops : List ℕ → ℕ → ℕ → ℕ → Type 0
+Stops px at n r = (r ≡ n) ⊎ ((r + 4 ≤ n) × FourEqual px (at + 4 * r))
 
 -- ---- the runs
 
@@ -38,6 +48,10 @@ oneRun (a ∷ []) = false
 oneRun (a ∷ b ∷ []) = eqb b a
 oneRun (a ∷ b ∷ c ∷ []) = eqb b a && eqb c b
 oneRun (a ∷ b ∷ c ∷ d ∷ xs) = false
+
+-- of the h bytes ys that gather, l are literals and s a short run: all are the one or the other
+abbrev pub Share : List ℕ → ℕ → ℕ → ℕ → Type 0
+Share ys h l s = (l ≡ pick (oneRun ys) 0 h) × (s ≡ pick (oneRun ys) h 0)
 
 -- the first run of xs, which has n bytes, is a long one of r
 pub record Front (n : ℕ) (xs : List ℕ) (r : ℕ) : Type 0 where

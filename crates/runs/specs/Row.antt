@@ -1,18 +1,19 @@
--- One row as it is written, and the worst row, by document 01, "Rows written". A pixel is four bytes of px.
+-- One row as it is written, where it is stored, and the worst row, by document 01, "Rows written". A pixel is four bytes of px.
 use Prim.Native.Nat.{ℕ, zero, suc, _+_, _*_, _/_, _%_}
+use mathlib.Core.Path.{_≡_}
 use mathlib.Core.Bool.{Bool, _&&_}
 use mathlib.Core.List.{List, [], _∷_, _++_}
-use lib.ListN.{getD}
+use lib.ListN.{length, getD}
 use lib.Dec.{leb}
 use Rattle.steps.specs.Loop.{pick}
-use Rattle.steps.specs.Place.{bytesFrom}
+use Rattle.steps.specs.Place.{bytesFrom, spread}
 use Rattle.runs.specs.Channel.{code}
 
--- widths 8 to 32,767
-abbrev pub isCoded : ℕ → Bool
+-- "Widths 8 to 32,767"
+unfoldable pub isCoded : ℕ → Bool
 isCoded w = leb 8 w && leb w 32767
 
--- the mark of a row of w pixels
+-- "mark 2, 2, w/256, w mod 256"
 abbrev pub mark : ℕ → List ℕ
 mark w = 2 ∷ 2 ∷ (w / 256) ∷ (w % 256) ∷ []
 
@@ -21,20 +22,24 @@ abbrev pub channel : List ℕ → ℕ → ℕ → List ℕ
 channel px at zero = []
 channel px at (suc w) = getD px at 0 ∷ channel px (at + 4) w
 
--- the mark, then four channels
+-- the mark, "then four channels"
 unfoldable pub codedRow : List ℕ → ℕ → ℕ → List ℕ
 codedRow px at w =
     mark w
     ++ (code (channel px at w) ++ (code (channel px (at + 1) w) ++ (code (channel px (at + 2) w) ++ code (channel px (at + 3) w))))
 
--- a row of w pixels, the first at place at; other widths are written flat
+-- a row of w pixels, the first at place at; "Other widths are written flat."
 unfoldable pub rowOf : List ℕ → ℕ → ℕ → List ℕ
 rowOf px at w = pick (isCoded w) (codedRow px at w) (bytesFrom px at (4 * w))
+
+-- the bytes l stand in `after` from place to on, and next is the place after them; the rest is as it was in `before`
+abbrev pub Stored : List ℕ → ℕ → List ℕ → ℕ → List ℕ → Type 0
+Stored before to l next after = (next ≡ to + length l) × (after ≡ spread 1 before to l)
 
 -- n bytes and a count for each 128 of them: the most that a channel of n bytes takes
 abbrev pub worstChannel : ℕ → ℕ
 worstChannel n = n + (n + 127) / 128
 
 -- the most that a row of w pixels takes
-abbrev pub worstRow : ℕ → ℕ
+unfoldable pub worstRow : ℕ → ℕ
 worstRow w = pick (isCoded w) (4 + 4 * worstChannel w) (4 * w)

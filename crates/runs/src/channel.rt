@@ -5,7 +5,7 @@ ghost use Prim.Native.Nat.{ℕ, _+_, _*_, _<_, _≤_};
 ghost use lib.ListN.{length, getD};
 ghost use Rattle.steps.specs.Place.{spread};
 ghost use Rattle.runs.specs.Channel.{literals, code};
-ghost use Rattle.runs.specs.Row.{channel};
+ghost use Rattle.runs.specs.Row.{channel, Stored};
 ghost use Rattle.runs.specs.Part.{runOf};
 
 // How many bytes a run of n takes: none where n is 0.
@@ -16,7 +16,7 @@ fn run_length(n: usize) -> usize
 }
 
 // How many bytes the channel of w pixels that starts at `from` is written in.
-pub fn channel_length(px: &[u8], from: usize, w: usize) -> usize
+pub(crate) fn channel_length(px: &[u8], from: usize, w: usize) -> usize
     requires { ⌜ from + 4 * w < length (now px) + 4 ⌝ }
     ensures { λ r. ⌜ r ≡ length (code (channel (now (px .entry)) from w)) ⌝ }
 {
@@ -55,7 +55,7 @@ fn copy_bytes(px: &[u8], at: usize, n: usize, out: &mut [u8], to: usize)
 // Stores n bytes of a channel as literals, and returns the place after them.
 fn write_literals(px: &[u8], at: usize, n: usize, out: &mut [u8], to: usize) -> usize
     requires { ⌜ (at + 4 * n < length (now px) + 4) × (to + length (literals 0 (channel (now px) at n)) ≤ length (now out)) ⌝ }
-    ensures { λ r. ⌜ (r ≡ to + length (literals 0 (channel (now (px .entry)) at n))) × (now (out .exit) ≡ spread 1 (now (out .entry)) to (literals 0 (channel (now (px .entry)) at n))) ⌝ }
+    ensures { λ r. ⌜ Stored (now (out .entry)) to (literals 0 (channel (now (px .entry)) at n)) r (now (out .exit)) ⌝ }
 {
     let mut a = at;
     let mut left = n;
@@ -74,7 +74,7 @@ fn write_literals(px: &[u8], at: usize, n: usize, out: &mut [u8], to: usize) -> 
 // Stores a run of n times the byte at `at`, which is nothing where n is 0, and returns the place after it.
 fn write_run(px: &[u8], at: usize, n: usize, out: &mut [u8], to: usize) -> usize
     requires { ⌜ (n ≤ 127) × (at + 4 * n < length (now px) + 4) × (to + length (runOf (getD (now px) at 0) n) ≤ length (now out)) ⌝ }
-    ensures { λ r. ⌜ (r ≡ to + length (runOf (getD (now (px .entry)) at 0) n)) × (now (out .exit) ≡ spread 1 (now (out .entry)) to (runOf (getD (now (px .entry)) at 0) n)) ⌝ }
+    ensures { λ r. ⌜ Stored (now (out .entry)) to (runOf (getD (now (px .entry)) at 0) n) r (now (out .exit)) ⌝ }
 {
     if n == 0 {
         return to;
@@ -85,9 +85,9 @@ fn write_run(px: &[u8], at: usize, n: usize, out: &mut [u8], to: usize) -> usize
 }
 
 // Stores the channel of w pixels that starts at `from`, and returns the place after it.
-pub fn write_channel(px: &[u8], from: usize, w: usize, out: &mut [u8], to: usize) -> usize
+pub(crate) fn write_channel(px: &[u8], from: usize, w: usize, out: &mut [u8], to: usize) -> usize
     requires { ⌜ (from + 4 * w < length (now px) + 4) × (to + length (code (channel (now px) from w)) ≤ length (now out)) ⌝ }
-    ensures { λ r. ⌜ (r ≡ to + length (code (channel (now (px .entry)) from w))) × (now (out .exit) ≡ spread 1 (now (out .entry)) to (code (channel (now (px .entry)) from w))) ⌝ }
+    ensures { λ r. ⌜ Stored (now (out .entry)) to (code (channel (now (px .entry)) from w)) r (now (out .exit)) ⌝ }
 {
     let mut at = from;
     let mut left = w;

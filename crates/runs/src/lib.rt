@@ -6,7 +6,7 @@ ghost use mathlib.Core.Path.{_≡_};
 ghost use Prim.Native.Nat.{_+_, _*_, _<_, _≤_};
 ghost use lib.ListN.{length};
 ghost use Rattle.steps.specs.Place.{spread};
-ghost use Rattle.runs.specs.Row.{isCoded, mark, codedRow, rowOf};
+ghost use Rattle.runs.specs.Row.{isCoded, mark, codedRow, rowOf, Stored};
 
 // Whether rows of w pixels are coded.
 fn is_coded(w: usize) -> bool
@@ -52,7 +52,7 @@ fn write_mark(w: usize, out: &mut [u8], to: usize)
 // Stores a coded row of w pixels, the first at `at`, and returns the place after it.
 fn write_coded(px: &[u8], at: usize, w: usize, out: &mut [u8], to: usize) -> usize
     requires { ⌜ (at + 4 * w ≤ length (now px)) × (0 < w) × (w < 65536) × (to + length (codedRow (now px) at w) ≤ length (now out)) ⌝ }
-    ensures { λ r. ⌜ (r ≡ to + length (codedRow (now (px .entry)) at w)) × (now (out .exit) ≡ spread 1 (now (out .entry)) to (codedRow (now (px .entry)) at w)) ⌝ }
+    ensures { λ r. ⌜ Stored (now (out .entry)) to (codedRow (now (px .entry)) at w) r (now (out .exit)) ⌝ }
 {
     write_mark(w, out, to);
     let a = channel::write_channel(px, at, w, out, to + 4);
@@ -64,7 +64,7 @@ fn write_coded(px: &[u8], at: usize, w: usize, out: &mut [u8], to: usize) -> usi
 // Stores a row of w pixels, the first at `at`, and returns the place after it.
 pub fn write_row(px: &[u8], at: usize, w: usize, out: &mut [u8], to: usize) -> usize
     requires { ⌜ (at + 4 * w ≤ length (now px)) × (to + length (rowOf (now px) at w) ≤ length (now out)) ⌝ }
-    ensures { λ r. ⌜ (r ≡ to + length (rowOf (now (px .entry)) at w)) × (now (out .exit) ≡ spread 1 (now (out .entry)) to (rowOf (now (px .entry)) at w)) ⌝ }
+    ensures { λ r. ⌜ Stored (now (out .entry)) to (rowOf (now (px .entry)) at w) r (now (out .exit)) ⌝ }
 {
     if is_coded(w) {
         return write_coded(px, at, w, out, to);

@@ -1,21 +1,19 @@
 // The scan of a channel: bytes that gather, written as literals or as a short run, and then a long run, or the end.
 ghost use mathlib.Core.Path.{_≡_};
-ghost use mathlib.Core.Logic.{_⊎_};
 ghost use mathlib.Core.Bool.{true};
 ghost use Prim.Native.Nat.{_+_, _*_, _<_, _≤_};
-ghost use lib.ListN.{length, getD};
-ghost use Rattle.steps.specs.Loop.{pick};
+ghost use lib.ListN.{length};
 ghost use Rattle.runs.specs.Row.{channel};
-ghost use Rattle.runs.specs.Part.{Four, Equal, Skip, Gathers, Front, Parted, oneRun};
+ghost use Rattle.runs.specs.Part.{Four, FourEqual, Equal, Skip, Gathers, Stops, Share, Front, Parted, oneRun};
 
 // How the front of a channel is written: so many literals, a short run, and a long run of so many bytes.
-pub struct Part {
-    pub literals: usize,
-    pub short: usize,
-    pub long: usize,
+pub(crate) struct Part {
+    pub(crate) literals: usize,
+    pub(crate) short: usize,
+    pub(crate) long: usize,
 }
 
-// Of the four bytes of a channel from `at` on, the first after the last two neighbours that differ; 0 where all are equal.
+// How far to go past the last two neighbours that differ of the four bytes of a channel from `at` on; 0 where all are equal.
 fn skip(px: &[u8], at: usize) -> usize
     requires { ⌜ at + 12 < length (now px) ⌝ }
     ensures { λ r. ⌜ Skip (now (px .entry)) at r ⌝ }
@@ -35,7 +33,7 @@ fn skip(px: &[u8], at: usize) -> usize
 // How many of the `left` bytes of a channel gather before the first four that are equal, or the end.
 fn gathered(px: &[u8], at: usize, left: usize) -> usize
     requires { ⌜ at + 4 * left < length (now px) + 4 ⌝ }
-    ensures { λ r. ⌜ Gathers (channel (now (px .entry)) at left) r × ((r ≡ left) ⊎ ((r + 4 ≤ left) × Four (now (px .entry)) (at + 4 * r) (getD (now (px .entry)) (at + 4 * r) 0))) ⌝ }
+    ensures { λ r. ⌜ Gathers (channel (now (px .entry)) at left) r × Stops (now (px .entry)) at left r ⌝ }
 {
     let mut h = 0;
     while h + 3 < left {
@@ -67,7 +65,7 @@ fn are_all(px: &[u8], at: usize, v: u8) -> bool
 
 // How many of the first `cap` bytes of a channel are equal, counted by fours, the first four being so.
 fn equal_fours(px: &[u8], at: usize, cap: usize) -> usize
-    requires { ⌜ (4 ≤ cap) × (at + 4 * cap < length (now px) + 4) × Four (now px) at (getD (now px) at 0) ⌝ }
+    requires { ⌜ (4 ≤ cap) × (at + 4 * cap < length (now px) + 4) × FourEqual (now px) at ⌝ }
     ensures { λ r. ⌜ (4 ≤ r) × (r ≤ cap) × Equal (now (px .entry)) at r ⌝ }
 {
     let v = px[at];
@@ -84,7 +82,7 @@ fn equal_fours(px: &[u8], at: usize, cap: usize) -> usize
 
 // How many bytes the first run of a channel has, of which `left` bytes are left, the first four equal.
 fn run_at(px: &[u8], at: usize, left: usize) -> usize
-    requires { ⌜ (4 ≤ left) × (at + 4 * left < length (now px) + 4) × Four (now px) at (getD (now px) at 0) ⌝ }
+    requires { ⌜ (4 ≤ left) × (at + 4 * left < length (now px) + 4) × FourEqual (now px) at ⌝ }
     ensures { λ r. ⌜ Front left (channel (now (px .entry)) at left) r ⌝ }
 {
     let v = px[at];
@@ -116,7 +114,7 @@ fn is_one_run(px: &[u8], at: usize, h: usize) -> bool
 // The part whose h bytes gather, and whose long run has `long`.
 fn part_of(px: &[u8], at: usize, h: usize, long: usize) -> Part
     requires { ⌜ at + 4 * h < length (now px) + 4 ⌝ }
-    ensures { λ r. ⌜ (r .literals ≡ pick (oneRun (channel (now (px .entry)) at h)) 0 h) × (r .short ≡ pick (oneRun (channel (now (px .entry)) at h)) h 0) × (r .long ≡ long) ⌝ }
+    ensures { λ r. ⌜ Share (channel (now (px .entry)) at h) h (r .literals) (r .short) × (r .long ≡ long) ⌝ }
 {
     if is_one_run(px, at, h) {
         return Part {
@@ -133,7 +131,7 @@ fn part_of(px: &[u8], at: usize, h: usize, long: usize) -> Part
 }
 
 // The part of a channel up to its first run of 4 or more, and that run.
-pub fn part_at(px: &[u8], at: usize, left: usize) -> Part
+pub(crate) fn part_at(px: &[u8], at: usize, left: usize) -> Part
     requires { ⌜ (0 < left) × (at + 4 * left < length (now px) + 4) ⌝ }
     ensures { λ r. ⌜ Parted left (channel (now (px .entry)) at left) (r .literals) (r .short) (r .long) ⌝ }
 {

@@ -6,6 +6,7 @@ use Prim.Native.Nat.{ℕ, zero, suc, _+_, _-_, _*_, _≤_, min}
 use native.Mathlib.Omega.{arith}
 use native.Mathlib.Nat.{add-zero}
 use lib.ListN.{length, take, drop, replicate, length-append, length-replicate, length-take, length-drop, take-append-drop}
+use lib.Seq.{drop-append-seam}
 use Rattle.steps.specs.Place.{bytesFrom, spread}
 use Rattle.steps.proofs.Laws.Loop.{Runs, runs-halt}
 use Rattle.rows.specs.declared.Taken.{Taken}
@@ -115,3 +116,8 @@ channel-there src at store k w xs rest e s =
     let done : w ≤ 0 + length xs = omega arith in
     sym (runs-halt ends (turn-done src k w (chan (at + length (code xs)) (0 + length xs) (spread 4 store (k + 4 * 0) xs)) done))
     ∙ ap (λ (i : ℕ). (Done (at + length (code xs)), spread 4 store i xs)) (omega arith)
+
+-- a coded channel is read back, whatever stands before and after it
+pub channel-back : (pre xs rest store : List ℕ) (k : ℕ)
+    → channelOf (pre ++ (code xs ++ rest)) (length pre) store k (length xs) ≡ (Done (length pre + length (code xs)), spread 4 store k xs)
+channel-back pre xs rest store k = channel-there (pre ++ (code xs ++ rest)) (length pre) store k (length xs) xs rest (drop-append-seam pre (code xs ++ rest)) refl

@@ -10,7 +10,7 @@ use lib.ListN.{length, getD, drop, drop-of-length-le}
 use lib.Seq.{drop-cons}
 use Rattle.runs.specs.Channel.{run, grow, cut}
 use Rattle.runs.specs.Row.{channel}
-use Rattle.runs.specs.Part.{Four, Equal}
+use Rattle.runs.specs.Part.{Four, FourEqual, Equal}
 use Rattle.runs.proofs.Laws.Channel.{grow-same, grow-other, grow-full}
 use Rattle.runs.proofs.Laws.Cut.{lt-or-ge}
 use Rattle.runs.proofs.Laws.Row.{length-channel, getD-channel}
@@ -59,7 +59,7 @@ module _ (px : List ℕ) (at : ℕ) where
       rw four at (equal-next (n + 1 + 1 + 1) (equal-next (n + 1 + 1) (equal-next (n + 1) (equal-next n e (f .0)) (rw i1 at (f .1))) (rw i2 at (f .2))) (rw i3 at (f .3)))
 
   -- the first four
-  pub equal-first : Four px at (getD px at 0) → Equal px at 4
+  pub equal-first : FourEqual px at → Equal px at 4
   equal-first f =
       let here : at ≡ at + 4 * 0 = omega arith in
       equal-four 0 (λ k h. absurd (omega arith)) (subst (λ (i : ℕ). Four px i (getD px at 0)) here f)

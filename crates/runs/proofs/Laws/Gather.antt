@@ -22,15 +22,15 @@ gather-runs g (run v n ∷ few) rs h =
     ∙ gather-runs (g ++ run v n ∷ []) few rs (omega arith)
     ∙ ap (λ (l : List Run). gather l rs) (append-assoc g (run v n ∷ []) few)
 
-pub gathers-none : (xs : List ℕ) → Gathers xs 0
+gathers-none : (xs : List ℕ) → Gathers xs 0
 unfolding code cut
 gathers-none xs = record { within = omega arith; short = omega arith; gathers = refl }
 
-pub gathers-more : (xs : List ℕ) (h d : ℕ) → Gathers xs h → Border xs h → d ≤ 3 → h + d ≤ length xs → Border xs (h + d) → Gathers xs (h + d)
+gathers-more : (xs : List ℕ) (h d : ℕ) → Gathers xs h → Border xs h → d ≤ 3 → h + d ≤ length xs → Border xs (h + d) → Gathers xs (h + d)
 gathers-more xs h d G b l w b′ = record {
   within = w;
   short = omega (arith, G .short, ap length cut-both, length-append (cut (take h xs)) (cut new), size-new, cut-few new (omega (arith, size-new)));
-  gathers = G .gathers ∙ ap (gather (cut (take h xs))) cut-rest ∙ gather-runs (cut (take h xs)) (cut new) (cut (drop d rest)) (omega (arith, ap length (bytes-cut new), size-new)) ∙ ap (λ (g : List Run). gather g (cut (drop d rest))) (sym cut-both) ∙ ap (λ (y : List ℕ). gather (cut both) (cut y)) (drop-drop d h xs);
+  gathers = G .gathers ∙ gather-rest;
 }
   where
     rest : List ℕ
@@ -66,16 +66,19 @@ gathers-more xs h d G b l w b′ = record {
         ∙ ap (λ (y : List ℕ). cut y ++ cut (drop h both)) (take-take h (h + d) xs (omega arith))
         ∙ ap (λ (y : List ℕ). cut (take h xs) ++ cut y) (ap (drop h) (take-add h d xs) ∙ drop-at (take h xs) new h (length-take-le h xs (omega arith)))
 
+    gather-rest : gather (cut (take h xs)) (cut rest) ≡ gather (cut both) (cut (drop (h + d) xs))
+    gather-rest =
+        ap (gather (cut (take h xs))) cut-rest
+        ∙ gather-runs (cut (take h xs)) (cut new) (cut (drop d rest)) (omega (arith, ap length (bytes-cut new), size-new))
+        ∙ ap (λ (g : List Run). gather g (cut (drop d rest))) (sym cut-both)
+        ∙ ap (λ (y : List ℕ). gather (cut both) (cut y)) (drop-drop d h xs)
+
 -- ---- the same, of a channel
 
-module _ (px : List ℕ) (at left h : ℕ) where
-  abbrev xs : List ℕ
-  xs = channel px at left
-
-  -- what the search holds at each place where it looks
-  pub record Looks : Type 0 where
-    pub gathers : Gathers xs h
-    pub border : Border xs h
+-- what the search holds at each place where it looks
+pub record Looks (px : List ℕ) (at left h : ℕ) : Type 0 where
+  pub gathers : Gathers (channel px at left) h
+  pub border : Border (channel px at left) h
 
 pub looks-first : (px : List ℕ) (at left : ℕ) → Looks px at left 0
 looks-first px at left = record { gathers = gathers-none (channel px at left); border = λ p. absurd (omega arith) }
@@ -86,7 +89,11 @@ module _ (px : List ℕ) (at left h d : ℕ) (L : Looks px at left h) where
       let i : at + 4 * (h + d - 1) ≡ at + 4 * h + 4 * (d - 1) = omega arith in
       let j : at + 4 * (h + d) ≡ at + 4 * h + 4 * d = omega arith in
       S .differ p
-      (ap (λ (k : ℕ). getD px k 0) (sym i) ∙ sym (getD-channel px at (h + d - 1) left (omega arith)) ∙ e ∙ getD-channel px at (h + d) left l ∙ ap (λ (k : ℕ). getD px k 0) j)
+      (ap (λ (k : ℕ). getD px k 0) (sym i)
+      ∙ sym (getD-channel px at (h + d - 1) left (omega arith))
+      ∙ e
+      ∙ getD-channel px at (h + d) left l
+      ∙ ap (λ (k : ℕ). getD px k 0) j)
 
   pub looks-next : Skip px (at + 4 * h) d → (d ≡ 0 → ⊥) → h + 3 < left → Looks px at left (h + d)
   looks-next S n l =

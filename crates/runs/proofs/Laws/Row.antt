@@ -40,6 +40,7 @@ getD-channel px at (suc i) (suc n) h = getD-channel px (at + 4) i n (omega arith
 -- ---- the two kinds of row
 
 pub coded-widths : (w : ℕ) → isCoded w ≡ true → (8 ≤ w) × (w ≤ 32767)
+unfolding isCoded
 coded-widths w e =
     let both = and-both (leb 8 w) (leb w 32767) e in
     (leb-true 8 w (both .0), leb-true w 32767 (both .1))

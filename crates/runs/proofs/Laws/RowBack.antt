@@ -124,7 +124,7 @@ flat-there px src p (suc n) at place store rest a e none r =
 -- ---- either row
 
 is-flat : (w : ℕ) → isCoded w ≡ false → true ≡ read.isFlatWidth w
-unfolding read.isFlatWidth
+unfolding isCoded read.isFlatWidth
 is-flat w e = go (leb 8 w) (leb w 32767) refl refl e
   where
     go : (a b : Bool) → leb 8 w ≡ a → leb w 32767 ≡ b → a && b ≡ false → true ≡ read.isFlatWidth w

@@ -8,7 +8,7 @@ use lib.ListN.{length, getD, take, drop, set, length-append, drop-of-length-le}
 use lib.Seq.{take-all}
 use Rattle.steps.specs.Place.{spread}
 use Rattle.runs.specs.Channel.{literals, code, gather, stretch, cut}
-use Rattle.runs.specs.Row.{channel, mark, codedRow}
+use Rattle.runs.specs.Row.{channel, mark, codedRow, Stored, worstChannel}
 use Rattle.runs.specs.Part.{runOf, Parted}
 use Rattle.runs.proofs.Laws.Channel.{literals-packet, length-literals}
 use Rattle.runs.proofs.Laws.Place.{spread-append}
@@ -16,11 +16,11 @@ use Rattle.runs.proofs.Laws.Row.{length-channel, drop-channel, take-cha
 use Rattle.runs.proofs.Laws.Cut.{lt-or-ge}
 use Rattle.runs.proofs.Laws.Part.{run-some}
 
--- once p has been stored from o on, what is left to store
-spread-turn : (out d : List ℕ) (o e : ℕ) (p q : List ℕ) → d ≡ spread 1 out o p → e ≡ o + length p → spread 1 out o (p ++ q) ≡ spread 1 d e q
-spread-turn out d o e p q a b =
+-- once p has been stored, what is left to store
+stored-then : (out d : List ℕ) (o e : ℕ) (p q : List ℕ) → Stored out o p e d → spread 1 out o (p ++ q) ≡ spread 1 d e q
+stored-then out d o e p q w =
     let next : o + 1 * length p ≡ e = omega arith in
-    spread-append 1 out o p q ∙ rw (a, next)
+    spread-append 1 out o p q ∙ rw (w .1, next)
 
 -- ---- nothing is left
 
@@ -77,7 +77,7 @@ literals-turn px a left c h e =
     ∙ ap (λ (l : List ℕ). c ∷ (l ++ literals 0 (drop c (channel px a left)))) (take-channel px a c left (omega arith))
     ∙ ap (λ (l : List ℕ). c ∷ (channel px a c ++ literals 0 l)) (drop-channel px a c left)
 
-pub literals-size : (px : List ℕ) (at n : ℕ) → length (literals 0 (channel px at n)) ≡ n + (n + 127) / 128
+pub literals-size : (px : List ℕ) (at n : ℕ) → length (literals 0 (channel px at n)) ≡ worstChannel n
 literals-size px at n = omega (arith, length-literals 0 (channel px at n) (omega arith), length-channel px at n)
 
 -- a packet of literals is stored
@@ -86,7 +86,7 @@ pub literals-store : (px out d : List ℕ) (a left c o : ℕ) → 0 < left → c
 unfolding spread
 literals-store px out d a left c o h e w =
     ap (spread 1 out o) (literals-turn px a left c h e)
-    ∙ spread-turn (set out o c) d (o + 1) (o + 1 + c) (channel px a c) (literals 0 (channel px (a + 4 * c) (left - c))) w (ap (λ (k : ℕ). o + 1 + k) (sym (length-channel px a c)))
+    ∙ stored-then (set out o c) d (o + 1) (o + 1 + c) (channel px a c) (literals 0 (channel px (a + 4 * c) (left - c))) (ap (λ (k : ℕ). o + 1 + k) (sym (length-channel px a c)), w)
 
 -- ---- a run
 
@@ -100,31 +100,34 @@ run-channel : (px : List ℕ) (at left i n : ℕ) → i + n ≤ left → runOf (
 run-channel px at left i zero h = refl
 run-channel px at left i (suc n) h = ap (λ (v : ℕ). runOf v (suc n)) (getD-channel px at i left (omega arith))
 
-module _ (px : List ℕ) (at left l s r : ℕ) (P : Parted left (channel px at left) l s r) where
-  -- what a part of a channel is coded as, and what is left of the channel
-  pub part-code : code (channel px at left) ≡ literals 0 (channel px at l) ++ (runOf (getD px (at + 4 * l) 0) s ++ (runOf (getD px (at + 4 * (l + s)) 0) r ++ code (channel px (at + 4 * (l + s + r)) (left - (l + s + r)))))
-  part-code =
-      let w = P .within in
-      P .parted
-      ∙ ap (λ (z : List ℕ). literals 0 z ++ (runOf (getD (channel px at left) l 0) s ++ (runOf (getD (channel px at left) (l + s) 0) r ++ code (drop (l + s + r) (channel px at left))))) (take-channel px at l left (omega arith))
-      ∙ ap (λ (z : List ℕ). literals 0 (channel px at l) ++ (z ++ (runOf (getD (channel px at left) (l + s) 0) r ++ code (drop (l + s + r) (channel px at left))))) (run-channel px at left l s (omega arith))
-      ∙ ap (λ (z : List ℕ). literals 0 (channel px at l) ++ (runOf (getD px (at + 4 * l) 0) s ++ (z ++ code (drop (l + s + r) (channel px at left))))) (run-channel px at left (l + s) r (omega arith))
-      ∙ ap (λ (z : List ℕ). literals 0 (channel px at l) ++ (runOf (getD px (at + 4 * l) 0) s ++ (runOf (getD px (at + 4 * (l + s)) 0) r ++ code z))) (drop-channel px at (l + s + r) left)
+module _ (px : List ℕ) (at left l s r : ℕ) where
+  abbrev pub lits : List ℕ
+  lits = literals 0 (channel px at l)
 
-  pub part-size : length (code (channel px at left)) ≡ length (literals 0 (channel px at l)) + (length (runOf (getD px (at + 4 * l) 0) s) + (length (runOf (getD px (at + 4 * (l + s)) 0) r) + length (code (channel px (at + 4 * (l + s + r)) (left - (l + s + r))))))
-  part-size = ap length part-code ∙ simp length-append
+  abbrev pub short : List ℕ
+  short = runOf (getD px (at + 4 * l) 0) s
 
--- a part is stored
-pub part-store : (px d₀ d₁ d₂ d₃ : List ℕ) (at left l s r o₀ o₁ o₂ o₃ : ℕ) → Parted left (channel px at left) l s r
-    → (o₁ ≡ o₀ + length (literals 0 (channel px at l))) × (d₁ ≡ spread 1 d₀ o₀ (literals 0 (channel px at l)))
-    → (o₂ ≡ o₁ + length (runOf (getD px (at + 4 * l) 0) s)) × (d₂ ≡ spread 1 d₁ o₁ (runOf (getD px (at + 4 * l) 0) s))
-    → (o₃ ≡ o₂ + length (runOf (getD px (at + 4 * (l + s)) 0) r)) × (d₃ ≡ spread 1 d₂ o₂ (runOf (getD px (at + 4 * (l + s)) 0) r))
-    → spread 1 d₀ o₀ (code (channel px at left)) ≡ spread 1 d₃ o₃ (code (channel px (at + 4 * (l + s + r)) (left - (l + s + r))))
-part-store px d₀ d₁ d₂ d₃ at left l s r o₀ o₁ o₂ o₃ P a b c =
-    ap (spread 1 d₀ o₀) (part-code px at left l s r P)
-    ∙ spread-turn d₀ d₁ o₀ o₁ (literals 0 (channel px at l)) _ (a .1) (a .0)
-    ∙ spread-turn d₁ d₂ o₁ o₂ (runOf (getD px (at + 4 * l) 0) s) _ (b .1) (b .0)
-    ∙ spread-turn d₂ d₃ o₂ o₃ (runOf (getD px (at + 4 * (l + s)) 0) r) _ (c .1) (c .0)
+  abbrev pub long : List ℕ
+  long = runOf (getD px (at + 4 * (l + s)) 0) r
+
+  abbrev pub rest : List ℕ
+  rest = code (channel px (at + 4 * (l + s + r)) (left - (l + s + r)))
+
+  module _ (P : Parted left (channel px at left) l s r) where
+    -- what a part of a channel is coded as, and what is left of the channel
+    part-code : code (channel px at left) ≡ lits ++ (short ++ (long ++ rest))
+    part-code =
+        let w = P .within in
+        rw (take-channel px at l left (omega arith), run-channel px at left l s (omega arith), run-channel px at left (l + s) r (omega arith), drop-channel px at (l + s + r) left) at (P .parted)
+
+    pub part-size : length (code (channel px at left)) ≡ length lits + (length short + (length long + length rest))
+    part-size = ap length part-code ∙ simp length-append
+
+    -- a part is stored
+    pub part-store : (d₀ d₁ d₂ d₃ : List ℕ) (o₀ o₁ o₂ o₃ : ℕ) → Stored d₀ o₀ lits o₁ d₁ → Stored d₁ o₁ short o₂ d₂ → Stored d₂ o₂ long o₃ d₃
+        → spread 1 d₀ o₀ (code (channel px at left)) ≡ spread 1 d₃ o₃ rest
+    part-store d₀ d₁ d₂ d₃ o₀ o₁ o₂ o₃ a b c =
+        ap (spread 1 d₀ o₀) part-code ∙ stored-then d₀ d₁ o₀ o₁ lits _ a ∙ stored-then d₁ d₂ o₁ o₂ short _ b ∙ stored-then d₂ d₃ o₂ o₃ long rest c
 
 -- ---- a row
 
@@ -135,11 +138,10 @@ mark-store out to w =
     let three : to + 3 ≡ to + 1 + 1 + 1 = omega arith in
     rw (two, three)
 
-pub row-store : (px d₀ d₁ d₂ d₃ d₄ d₅ : List ℕ) (at w o₀ o₂ o₃ o₄ : ℕ)
-    → d₁ ≡ spread 1 d₀ o₀ (mark w)
-    → (o₂ ≡ o₀ + 4 + length (code (channel px at w))) × (d₂ ≡ spread 1 d₁ (o₀ + 4) (code (channel px at w)))
-    → (o₃ ≡ o₂ + length (code (channel px (at + 1) w))) × (d₃ ≡ spread 1 d₂ o₂ (code (channel px (at + 1) w)))
-    → (o₄ ≡ o₃ + length (code (channel px (at + 2) w))) × (d₄ ≡ spread 1 d₃ o₃ (code (channel px (at + 2) w)))
+pub row-store : (px d₀ d₁ d₂ d₃ d₄ d₅ : List ℕ) (at w o₀ o₂ o₃ o₄ : ℕ) → d₁ ≡ spread 1 d₀ o₀ (mark w)
+    → Stored d₁ (o₀ + 4) (code (channel px at w)) o₂ d₂
+    → Stored d₂ o₂ (code (channel px (at + 1) w)) o₃ d₃
+    → Stored d₃ o₃ (code (channel px (at + 2) w)) o₄ d₄
     → d₅ ≡ spread 1 d₄ o₄ (code (channel px (at + 3) w))
     → d₅ ≡ spread 1 d₀ o₀ (codedRow px at w)
 unfolding codedRow
@@ -150,7 +152,7 @@ row-store px d₀ d₁ d₂ d₃ d₄ d₅ at w o₀ o₂ o₃ o₄ m a b c e =
     let s : List ℕ = code (channel px (at + 3) w) in
     e
     ∙ sym
-    (spread-turn d₀ d₁ o₀ (o₀ + 4) (mark w) (p ++ (q ++ (r ++ s))) m refl
-    ∙ spread-turn d₁ d₂ (o₀ + 4) o₂ p (q ++ (r ++ s)) (a .1) (a .0)
-    ∙ spread-turn d₂ d₃ o₂ o₃ q (r ++ s) (b .1) (b .0)
-    ∙ spread-turn d₃ d₄ o₃ o₄ r s (c .1) (c .0))
+    (stored-then d₀ d₁ o₀ (o₀ + 4) (mark w) (p ++ (q ++ (r ++ s))) (refl, m)
+    ∙ stored-then d₁ d₂ (o₀ + 4) o₂ p (q ++ (r ++ s)) a
+    ∙ stored-then d₂ d₃ o₂ o₃ q (r ++ s) b
+    ∙ stored-then d₃ d₄ o₃ o₄ r s c)

@@ -43,6 +43,7 @@ pub channel-worst : (px : List ℕ) (at n : ℕ) → length (code (channel px at
 channel-worst px at n = omega (arith, code-worst (channel px at n), length-channel px at n)
 
 pub row-worst : (px : List ℕ) (at w : ℕ) → length (rowOf px at w) ≤ worstRow w
+unfolding worstRow
 row-worst px at w = go (isCoded w) refl
   where
     go : (t : Bool) → isCoded w ≡ t → length (rowOf px at w) ≤ pick t (4 + 4 * worstChannel w) (4 * w)
@@ -122,6 +123,7 @@ channel-turns p q pre rest k (suc n) a b l =
 -- pixels in turn of two values that differ in all four bytes are a row as long as a row can be
 pub row-reached : (p q pre rest : List ℕ) (w : ℕ) → length p ≡ 4 → length q ≡ 4 → ((k : ℕ) → k < 4 → getD p k 0 ≡ getD q k 0 → ⊥)
     → length (rowOf (pre ++ (pixels p q w ++ rest)) (length pre) w) ≡ worstRow w
+unfolding worstRow
 row-reached p q pre rest w a b differ = go (isCoded w) refl
   where
     px : List ℕ

@@ -1,18 +1,25 @@
 -- `runs::coded_length` meets its contract: no channel is longer than its worst, so the sums fit.
-use Prim.Native.Nat.{_+_, _*_, _≤_}
+use Prim.Native.Nat.{ℕ, _+_, _*_, _≤_}
 use native.Mathlib.Omega.{arith}
 use borrow.Author.Needs.{needs}
+use lib.ListN.{length}
+use Rattle.runs.specs.Channel.{code}
+use Rattle.runs.specs.Row.{channel, worstChannel}
 use Rattle.runs.proofs.Laws.Worst.{channel-worst}
 use Rattle.runs.proofs.Laws.Row.{coded-size}
 use Rattle.runs.proofs.coded_length.Statement.{statement}
 use Rattle.runs.proofs.coded_length.Tie as tie
 
--- none is longer than twice the w
-small : (c : tie.After-channel-length4) → let w = c .before .before .before .before .before .args .w in (c .channel-length4 .result ≤ 2 * w) × (c .before .channel-length3 .result ≤ 2 * w) × (c .before .before .channel-length2 .result ≤ 2 * w) × (c .before .before .before .channel-length .result ≤ 2 * w)
+-- none is longer than twice the width
+small : (c : tie.After-channel-length4) → let w = c .before .before .before .before .before .args .w in
+    (c .channel-length4 .result ≤ 2 * w)
+    × (c .before .channel-length3 .result ≤ 2 * w)
+    × (c .before .before .channel-length2 .result ≤ 2 * w)
+    × (c .before .before .before .channel-length .result ≤ 2 * w)
 small c =
     let a = c .before .before .before .before .before .args in
-    let px = a .px .now in
-    omega (arith, channel-worst px (a .at) (a .w), channel-worst px (a .at + 1) (a .w), channel-worst px (a .at + 2) (a .w), channel-worst px (a .at + 3) (a .w))
+    let worst : (i : ℕ) → length (code (channel (a .px .now) i (a .w))) ≤ worstChannel (a .w) = λ i. channel-worst (a .px .now) i (a .w) in
+    omega (arith, worst (a .at), worst (a .at + 1), worst (a .at + 2), worst (a .at + 3))
 
 channel-length-requires : tie.Need-channel-length-requires
 channel-length-requires c κs = search needs

@@ -65,7 +65,8 @@ returns c =
     let k0 = k1 .before .before .before .before in
     let a = k0 .before .before .before .before .args in (
       omega (arith, coded-size (a .px .now) (a .at) (a .w), k1 .write-channel .ensures .0, k2 .write-channel2 .ensures .0, k3 .write-channel3 .ensures .0, k4 .write-channel4 .ensures .0),
-      row-store (a .px .now) (a .out .now) _ _ _ _ _ (a .at) (a .w) (a .to) _ _ _ (k0 .write-mark .ensures) (k1 .write-channel .ensures) (k2 .write-channel2 .ensures) (k3 .write-channel3 .ensures) (k4 .write-channel4 .ensures .1),
+      row-store (a .px .now) (a .out .now) _ _ _ _ _ (a .at) (a .w) (a .to) _ _ _
+          (k0 .write-mark .ensures) (k1 .write-channel .ensures) (k2 .write-channel2 .ensures) (k3 .write-channel3 .ensures) (k4 .write-channel4 .ensures .1),
     )
 
 pub write-coded-spec : {M : Type 1} → statement M

@@ -12,7 +12,9 @@ use Rattle.runs.proofs.channel.channel_length.Statement.{statement}
 use Rattle.runs.proofs.channel.channel_length.Tie as tie
 
 abbrev Inv-loop : tie.InvT-loop
-Inv-loop px from w at₀ left₀ n₀ at left n = (at + 4 * left ≡ from + 4 * w) × (n + length (code (channel px at left)) ≡ length (code (channel px from w))) × (length (code (channel px from w)) ≤ worstChannel w)
+Inv-loop px from w at₀ left₀ n₀ at left n = (at + 4 * left ≡ from + 4 * w)
+    × (n + length (code (channel px at left)) ≡ length (code (channel px from w)))
+    × (length (code (channel px from w)) ≤ worstChannel w)
 
 abbrev μ-loop : tie.MeasureT-loop
 μ-loop px from w at₀ left₀ n₀ at left n = left
@@ -66,11 +68,12 @@ loop-again : tie.Need-loop-again Inv-loop μ-loop
 loop-again c =
     let t = c .before .before .before .before .loop in
     let px = c .before .before .before .before .before .before .args .px .now in
-    let p = c .before .before .part-at .result in (
-      omega arith,
-      omega (arith, part-size px (t .at) (t .left) (p .literals) (p .short) (p .long) (c .before .before .part-at .ensures), literals-size px (t .at) (p .literals), c .before .run-length .ensures .1 (getD px (t .at + 4 * p .literals) 0), c .run-length2 .ensures .1 (getD px (t .at + 4 * (p .literals + p .short)) 0)),
-      t .inv .2,
-    )
+    let p = c .before .before .part-at .result in
+    let size = part-size px (t .at) (t .left) (p .literals) (p .short) (p .long) (c .before .before .part-at .ensures) in
+    let lits = literals-size px (t .at) (p .literals) in
+    let short = c .before .run-length .ensures .1 (getD px (t .at + 4 * p .literals) 0) in
+    let long = c .run-length2 .ensures .1 (getD px (t .at + 4 * (p .literals + p .short)) 0) in
+    (omega arith, omega arith, t .inv .2)
 
 returns : tie.Need-returns Inv-loop μ-loop
 returns c =

@@ -10,7 +10,10 @@ use Rattle.runs.proofs.channel.copy_bytes.Statement.{statement}
 use Rattle.runs.proofs.channel.copy_bytes.Tie as tie
 
 abbrev Inv-loop : tie.InvT-loop
-Inv-loop px at n out₀ to a₀ left₀ o₀ out a left o = (a + 4 * left ≡ at + 4 * n) × (o + left ≡ to + n) × (length out ≡ length out₀) × (spread 1 out o (channel px a left) ≡ spread 1 out₀ to (channel px at n))
+Inv-loop px at n out₀ to a₀ left₀ o₀ out a left o = (a + 4 * left ≡ at + 4 * n)
+    × (o + left ≡ to + n)
+    × (length out ≡ length out₀)
+    × (spread 1 out o (channel px a left) ≡ spread 1 out₀ to (channel px at n))
 
 abbrev μ-loop : tie.MeasureT-loop
 μ-loop px at n out₀ to a₀ left₀ o₀ out a left o = left

@@ -36,7 +36,8 @@ write-literals-requires c κs =
     let q = c .before in
     let t = q .before .before in
     let p = q .part-at .result in
-    omega (arith, part-size (t .before .before .before .args .px .now) (t .loop .at) (t .loop .left) (p .literals) (p .short) (p .long) (q .part-at .ensures))
+    let size = part-size (t .before .before .before .args .px .now) (t .loop .at) (t .loop .left) (p .literals) (p .short) (p .long) (q .part-at .ensures) in
+    omega arith
 
 mul-write-run : tie.Need-mul-write-run Inv-loop μ-loop
 mul-write-run c = omega arith
@@ -50,7 +51,8 @@ write-run-requires c κs =
     let q = w .before .before in
     let t = q .before .before in
     let p = q .part-at .result in
-    omega (arith, part-size (t .before .before .before .args .px .now) (t .loop .at) (t .loop .left) (p .literals) (p .short) (p .long) (q .part-at .ensures), w .write-literals .kept)
+    let size = part-size (t .before .before .before .args .px .now) (t .loop .at) (t .loop .left) (p .literals) (p .short) (p .long) (q .part-at .ensures) in
+    omega (arith, w .write-literals .kept)
 
 add-write-run-2 : tie.Need-add-write-run-2 Inv-loop μ-loop
 add-write-run-2 c = omega arith
@@ -68,7 +70,8 @@ write-run-requires-2 c κs =
     let q = w .before .before in
     let t = q .before .before in
     let p = q .part-at .result in
-    omega (arith, part-size (t .before .before .before .args .px .now) (t .loop .at) (t .loop .left) (p .literals) (p .short) (p .long) (q .part-at .ensures), w .write-literals .kept, v .write-run .kept)
+    let size = part-size (t .before .before .before .args .px .now) (t .loop .at) (t .loop .left) (p .literals) (p .short) (p .long) (q .part-at .ensures) in
+    omega (arith, w .write-literals .kept, v .write-run .kept)
 
 mul-at : tie.Need-mul-at Inv-loop μ-loop
 mul-at c = omega arith
@@ -90,11 +93,13 @@ loop-again c =
     let q = w .before .before in
     let t = q .before .before in
     let p = q .part-at .result in
-    let px = t .before .before .before .args .px .now in (
+    let px = t .before .before .before .args .px .now in
+    let size = part-size px (t .loop .at) (t .loop .left) (p .literals) (p .short) (p .long) (q .part-at .ensures) in
+    let store = part-store px (t .loop .at) (t .loop .left) (p .literals) (p .short) (p .long) (q .part-at .ensures) in (
       omega arith,
-      omega (arith, part-size px (t .loop .at) (t .loop .left) (p .literals) (p .short) (p .long) (q .part-at .ensures), w .write-literals .ensures .0, v .write-run .ensures .0, u .write-run2 .ensures .0),
+      omega (arith, w .write-literals .ensures .0, v .write-run .ensures .0, u .write-run2 .ensures .0),
       omega (arith, w .write-literals .kept, v .write-run .kept, u .write-run2 .kept),
-      sym (part-store px (t .loop .out) _ _ _ (t .loop .at) (t .loop .left) (p .literals) (p .short) (p .long) (t .loop .o) _ _ _ (q .part-at .ensures) (w .write-literals .ensures) (v .write-run .ensures) (u .write-run2 .ensures)) ∙ t .loop .inv .3,
+      sym (store (t .loop .out) _ _ _ (t .loop .o) _ _ _ (w .write-literals .ensures) (v .write-run .ensures) (u .write-run2 .ensures)) ∙ t .loop .inv .3,
     )
 
 same-length : tie.Need-same-length Inv-loop μ-loop

@@ -1,6 +1,6 @@
 -- `runs::part::is_one_run` meets its contract: the tests on the way say which case it is.
 use borrow.Author.Needs.{needs}
-use Rattle.runs.proofs.Laws.Part.{one-of-2, one-of-3, none-of-3, none-of}
+use Rattle.runs.proofs.Laws.OneRun.{one-of-2, one-of-3, none-of-3, none-of}
 use Rattle.runs.proofs.part.is_one_run.Statement.{statement}
 use Rattle.runs.proofs.part.is_one_run.Tie as tie
 

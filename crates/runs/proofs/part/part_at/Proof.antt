@@ -2,8 +2,7 @@
 use Prim.Native.Nat.{_+_, _*_, _≤_}
 use native.Mathlib.Omega.{arith}
 use borrow.Author.Needs.{needs}
-use lib.ListN.{getD}
-use Rattle.runs.specs.Part.{Four}
+use Rattle.runs.specs.Part.{FourEqual}
 use Rattle.runs.proofs.Laws.Part.{parted-end, parted-long, long-follows}
 use Rattle.runs.proofs.part.part_at.Statement.{statement}
 use Rattle.runs.proofs.part.part_at.Tie as tie
@@ -18,7 +17,8 @@ returns : tie.Need-returns
 returns c = search parted-end
 
 -- where the channel does not end, four equal bytes follow
-follows : (c : tie.Else1) → let a = c .before .before .before .args in let i = a .at + 4 * c .before .gathered .result in (c .before .gathered .result + 4 ≤ a .left) × Four (a .px .now) i (getD (a .px .now) i 0)
+follows : (c : tie.Else1) → let a = c .before .before .before .args in let h = c .before .gathered .result in
+    (h + 4 ≤ a .left) × FourEqual (a .px .now) (a .at + 4 * h)
 follows c =
     let a = c .before .before .before .args in
     long-follows (a .px .now) (a .at) (a .left) (c .before .gathered .result) (c .before .gathered .ensures .1) (c .if1 .left)

@@ -8,10 +8,10 @@ is-one-run-requires : tie.Need-is-one-run-requires
 is-one-run-requires c κs = search needs
 
 returns : tie.Need-returns
-returns c = simp (sym (c .before .is-one-run .ensures) ∙ c .if1 .taken) (refl, refl, refl)
+returns c = simp (sym (c .before .is-one-run .ensures) ∙ c .if1 .taken) ((refl, refl), refl)
 
 returns-2 : tie.Need-returns-2
-returns-2 c = simp (sym (c .before .is-one-run .ensures) ∙ c .if1 .left) (refl, refl, refl)
+returns-2 c = simp (sym (c .before .is-one-run .ensures) ∙ c .if1 .left) ((refl, refl), refl)
 
 pub part-of-spec : {M : Type 1} → statement M
 part-of-spec = tie.close (tie.spec is-one-run-requires returns returns-2)

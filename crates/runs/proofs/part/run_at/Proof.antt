@@ -40,7 +40,12 @@ returns : tie.Need-returns Inv-loop μ-loop
 returns c =
     let a = c .before .before .before .before .before .before .before .before .args in
     let at-loop = c .before .before .before .loop in
-    record { long = omega arith; small = omega arith; within = omega arith; front = run-other (a .px .now) (a .at) (a .left) (omega arith) (at-loop .n) (omega arith) (omega arith) (at-loop .inv .2) (omega arith) (c .if1 .taken) }
+    record {
+      long = omega arith;
+      small = omega arith;
+      within = omega arith;
+      front = run-other (a .px .now) (a .at) (a .left) (omega arith) (at-loop .n) (omega arith) (omega arith) (at-loop .inv .2) (omega arith) (c .if1 .taken);
+    }
 
 add-n : tie.Need-add-n Inv-loop μ-loop
 add-n c = omega arith
@@ -58,7 +63,12 @@ returns-2 : tie.Need-returns-2 Inv-loop μ-loop
 returns-2 c =
     let a = c .before .before .before .before .before .before .args in
     let at-loop = c .before .loop in
-    record { long = omega arith; small = omega arith; within = omega arith; front = run-stop (a .px .now) (a .at) (a .left) (omega arith) (at-loop .n) (omega arith) (omega arith) (at-loop .inv .2) (omega arith) }
+    record {
+      long = omega arith;
+      small = omega arith;
+      within = omega arith;
+      front = run-stop (a .px .now) (a .at) (a .left) (omega arith) (at-loop .n) (omega arith) (omega arith) (at-loop .inv .2) (omega arith);
+    }
 
 pub run-at-spec : {M : Type 1} → statement M
 run-at-spec =
