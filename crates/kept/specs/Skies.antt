@@ -13,7 +13,7 @@ use Rattle.pixel.specs.declared.Packed.{Packed}
 use Rattle.pixel.specs.declared.Packed.the-variants.{Bytes}
 use Rattle.pixel.specs.Rgbe.{crateUnits, docUnits, pixelOf, packedOf}
 use Rattle.header.specs.declared.Head.{Head}
-use Rattle.header.specs.Lines.{radianceLine, rgbeLine, lineFeed, space}
+use Rattle.header.specs.Lines.{rgbeLine, lineFeed, space}
 use Rattle.header.specs.Fields.{minusY, plusX}
 use Rattle.runs.specs.Channel.{code}
 use Rattle.reader.specs.Read.{crateRow, cratePixel, readBy}
@@ -94,10 +94,10 @@ skies =
     ∷ crate-reads (rgbe 255 255 255 0) (pixel none none none)
     -- 5: width 4, one row with an old run
     ∷ reads (small 1 4 ++ oldRun)
-        (replicate 12 (whole 1 0)) (replicate 16 7)
-        (done (head 4 1 30))
-        (part 5 6 ∷ part 5 6 ∷ part 5 6 ∷ part 5 5 ∷ part 5 5 ∷ part 5 5 ∷ part 1 38 ∷ part 1 38 ∷ part 1 38 ∷ none ∷ none ∷ none ∷ [])
-        (oldRun ++ replicate 4 0)
+    (replicate 12 (whole 1 0)) (replicate 16 7)
+    (done (head 4 1 30))
+    (part 5 6 ∷ part 5 6 ∷ part 5 6 ∷ part 5 5 ∷ part 5 5 ∷ part 5 5 ∷ part 1 38 ∷ part 1 38 ∷ part 1 38 ∷ none ∷ none ∷ none ∷ [])
+    (oldRun ++ replicate 4 0)
     -- 6: channels
     ∷ codes (5 ∷ 5 ∷ 9 ∷ 9 ∷ 9 ∷ 9 ∷ 9 ∷ 9 ∷ []) (130 ∷ 5 ∷ 134 ∷ 9 ∷ [])
     ∷ codes (5 ∷ 5 ∷ 6 ∷ 9 ∷ 9 ∷ 9 ∷ 9 ∷ 9 ∷ []) (3 ∷ 5 ∷ 5 ∷ 6 ∷ 133 ∷ 9 ∷ [])

@@ -1,7 +1,7 @@
 // Four bytes to three samples and back.
 ghost use mathlib.Core.Path.{_≡_};
 ghost use mathlib.Core.Bool.{_&&_};
-ghost use Prim.Native.Nat.{ℕ, _/_, _^_, _<_, _≤_, max};
+ghost use Prim.Native.Nat.{_/_, _^_, _<_, _≤_, max};
 ghost use lib.Dec.{T, ltb};
 ghost use lib.Ieee.{size};
 ghost use Rattle.pixel.specs.Units.{ofUnits, mag, bright};

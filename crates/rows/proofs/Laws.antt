@@ -1,5 +1,4 @@
 -- The laws of the definitions in `specs/`, a file for each of its files; the files before them hold what these share, `Bounds` what a caller uses.
-pub mod Turns
 pub mod Kept
 pub mod Fourth
 pub mod Channel

@@ -1,5 +1,6 @@
 -- The laws of the definitions in `specs/`, a file for each of its files.
 pub mod Loop
 pub mod Place
+pub mod Turns
 pub mod Answer
 pub mod Amount

@@ -5,12 +5,13 @@ use mathlib.Core.List.{List, [], _∷_}
 use mathlib.Core.Path.{_≡_, refl, sym, ap, _∙_}
 use native.Mathlib.Omega.{arith}
 use native.Mathlib.Numerals.{add-one}
-use borrow.Author.Tests.{eq-eqb, ne-eqb, le-leb, lt-leb}
+use borrow.Author.Tests.{eq-eqb, ne-eqb, le-leb, lt-leb, leb-false}
 use lib.ListN.{length, getD, drop, length-drop, drop-of-length-le}
 use lib.Seq.{drop-cons}
-use lib.Dec.{eqb}
-use Rattle.steps.specs.Loop.{pick, more}
+use lib.Dec.{eqb, leb}
+use Rattle.steps.specs.Loop.{pick, more, run}
 use Rattle.steps.proofs.Laws.Loop.{Runs, runs-start, runs-more, runs-halt}
+use Rattle.steps.proofs.Laws.Turns.{by-test, Falls, never-out}
 use Rattle.header.specs.Lines.{upTo, past, same, radianceLine, rgbeLine, isFirst, lineFeed, lineTurn, noLines, linesEnd}
 
 -- ---- Up to a byte
@@ -139,3 +140,14 @@ module _ (bytes : List ℕ) (p a : ℕ) (r : Runs (lineTurn bytes) noLines (leng
 
 pub line-less : (bytes : List ℕ) (p q : ℕ) → p < length bytes → q ≡ past lineFeed bytes p → length bytes - q < length bytes - p
 line-less bytes p q h e = omega (arith, past-moves lineFeed bytes p h)
+
+-- the turns are never used up, since each line takes a byte or more
+falls : (bytes : List ℕ) (p : ℕ) → Falls (λ (q : ℕ). length bytes - q) p (lineTurn bytes p)
+unfolding lineTurn
+falls bytes p =
+    by-test (Falls (λ (q : ℕ). length bytes - q) p) (leb (length bytes) p) (λ t. tt)
+    (λ t. by-test (Falls (λ (q : ℕ). length bytes - q) p) (eqb (getD bytes p 0) lineFeed) (λ u. tt) (λ u. line-less bytes p _ (leb-false (length bytes) p t) refl))
+
+pub lines-never-out : (bytes : List ℕ) (at : ℕ) (other : ℕ → ℕ) → linesEnd bytes at ≡ run (lineTurn bytes) other (length bytes + 1) at
+unfolding linesEnd
+lines-never-out bytes at other = never-out (lineTurn bytes) noLines other (λ p. length bytes - p) (falls bytes) _ _ (omega arith)

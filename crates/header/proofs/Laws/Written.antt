@@ -11,7 +11,7 @@ use lib.ListN.{length, set, length-append}
 use lib.Dec.{ltb, lit<, lit≤}
 use Rattle.steps.specs.Loop.{pick}
 use Rattle.steps.specs.Place.{spread, bytesFrom}
-use Rattle.steps.proofs.Laws.Place.{spread-append, spread-then}
+use Rattle.steps.proofs.Laws.Place.{spread-then}
 use Rattle.header.specs.Lines.{lineFeed, space, radianceLine}
 use Rattle.header.specs.Fields.{minusY, plusX}
 use Rattle.header.specs.Written.{softwareLine, formatLine, emptyLine, digitsBy, digits, written}
@@ -76,7 +76,7 @@ module _ (at n p : ℕ) (h : 10 ≤ n) (ep : p ≡ at + length (digits (n / 10))
 
   pub store-more : (s s′ : List ℕ) → s′ ≡ spread 1 s at (digits (n / 10)) → set s′ p (48 + n % 10) ≡ spread 1 s at (digits n)
   unfolding spread
-  store-more s s′ e = rw (digits-more n h, spread-append, ← e, ← ep)
+  store-more s s′ e = rw (digits-more n h) (sym (spread-then s s′ at p (digits (n / 10)) ((48 + n % 10) ∷ []) e ep))
 
 -- ---- The whole header
 

@@ -12,7 +12,7 @@ use Rattle.steps.specs.Loop.{run}
 use Rattle.steps.specs.Place.{spread}
 use Rattle.steps.specs.Answer.{done, refused}
 use Rattle.steps.proofs.Laws.Loop.{Runs, runs-start, runs-more, runs-halt}
-use Rattle.rows.proofs.Laws.Turns.{Falls, by-test, never-out}
+use Rattle.steps.proofs.Laws.Turns.{Falls, by-test, never-out}
 use Rattle.reader.specs.Samples.{SampleRule, samplesFrom}
 use Rattle.reader.specs.Frame.{Outcome, next, fault, RowRule, Rows, rows, Left, afterRow, rowTurn, noRows, rowsOf}
 

@@ -9,7 +9,7 @@ use lib.ListN.{length, getD, replicate}
 use Rattle.steps.specs.Loop.{Turn, more, halt, run}
 use Rattle.steps.specs.Place.{bytesFrom, spread}
 use Rattle.steps.proofs.Laws.Loop.{Runs, runs-start, runs-more}
-use Rattle.rows.proofs.Laws.Turns.{by-test, Falls, never-out}
+use Rattle.steps.proofs.Laws.Turns.{by-test, Falls, never-out}
 use Rattle.rows.specs.declared.Taken.{Taken}
 use Rattle.rows.specs.declared.Taken.the-variants.{Done, Short}
 use Rattle.rows.specs.Channel.{Chan, chan, channelOf, channelOut, channelTurn, isRun, spanAt, spanBytes, spanLength, spanOf, spanTaken}

@@ -10,7 +10,7 @@ use lib.Dec.{ltb}
 use Rattle.steps.specs.Loop.{Turn, more, halt, run}
 use Rattle.steps.specs.Place.{bytesFrom, spread}
 use Rattle.steps.proofs.Laws.Loop.{Runs, runs-start, runs-more, runs-halt}
-use Rattle.rows.proofs.Laws.Turns.{and-left, and-right, by-test, Falls, never-out}
+use Rattle.steps.proofs.Laws.Turns.{and-left, and-right, by-test, Falls, never-out}
 use Rattle.rows.specs.Repeat.{Rep, copied, lasts, rep, repeatOf, repeatOut, repeatTurn}
 
 pub copied-is : (start place : ℕ) (s : List ℕ) → start + 4 < place

@@ -9,7 +9,7 @@ use lib.ListN.{length, getD, set}
 use lib.Dec.{ltb}
 use Rattle.steps.specs.Loop.{pick, Turn, more, halt, run}
 use Rattle.steps.proofs.Laws.Loop.{Runs, runs-start, runs-more, runs-halt}
-use Rattle.rows.proofs.Laws.Turns.{by-test, Falls, never-out}
+use Rattle.steps.proofs.Laws.Turns.{by-test, Falls, never-out}
 use Rattle.rows.specs.Channel.{channelOf}
 use Rattle.rows.specs.Flat.{flatOf}
 use Rattle.rows.specs.declared.Taken.{Taken}

@@ -15,7 +15,7 @@ use Rattle.rows.specs.Channel.{chan, channelOf, channelOut, channelTurn}
 use Rattle.rows.proofs.Laws.Channel.{length-run, length-literals, span-run, span-literals, span-again, turn-done, channel-starts}
 use Rattle.runs.specs.Channel.{Run, run, cut, bytes, literals, packet, stretch, gather, code}
 use Rattle.runs.proofs.Laws.Channel.{bytes-cut, bytes-append, literals-packet, stretch-step, gather-step}
-use Rattle.runs.proofs.Laws.Place.{spread-append, drop-next, drop-past, bytes-there}
+use Rattle.steps.proofs.Laws.Place.{spread-append, drop-next, drop-past, bytes-there}
 
 -- the reader is at a place of src, has `done` bytes of the channel, and goes on to the answer a
 abbrev Reached : List ℕ → ℕ → ℕ → Taken × List ℕ → ℕ → ℕ → List ℕ → Type 0

@@ -18,7 +18,7 @@ use Rattle.rows.proofs.Laws.Flat.{pixel-ordinary, flat-starts, flat-done, flat-
 use Rattle.rows.proofs.Laws.Row.{mark-by, kind-channels, chans-starts, chans-again, chans-done, row-by-width, row-channels}
 use Rattle.runs.specs.Channel.{code}
 use Rattle.runs.specs.Row.{isCoded, channel, codedRow, rowOf}
-use Rattle.runs.proofs.Laws.Place.{spread-append, drop-next, drop-past, bytes-there}
+use Rattle.steps.proofs.Laws.Place.{spread-append, drop-next, drop-past, bytes-there}
 use Rattle.runs.proofs.Laws.Row.{length-channel, coded-widths, row-coded, row-flat, coded-size, flat-size}
 use Rattle.runs.proofs.Laws.ChannelBack.{channel-there}
 use Rattle.runs.proofs.Laws.Weave.{bytes-four, weave, mark-covered}

@@ -1,6 +1,6 @@
 -- The laws that the writing loops ask: what is left to store, stored, gives what was to be stored.
 use mathlib.Core.Path.{_≡_, refl, sym, ap, _∙_}
-use mathlib.Core.Logic.{_⊎_, ⊎-elim}
+use mathlib.Core.Logic.{⊎-elim}
 use mathlib.Core.List.{List, [], _∷_, _++_}
 use Prim.Native.Nat.{ℕ, zero, suc, _+_, _-_, _*_, _/_, _%_, _≤_, _<_, min}
 use native.Mathlib.Omega.{arith}
@@ -11,7 +11,7 @@ use Rattle.runs.specs.Channel.{literals, code, gather, stretch, cut}
 use Rattle.runs.specs.Row.{channel, mark, codedRow, Stored, worstChannel}
 use Rattle.runs.specs.Part.{runOf, Parted}
 use Rattle.runs.proofs.Laws.Channel.{literals-packet, length-literals}
-use Rattle.runs.proofs.Laws.Place.{spread-append}
+use Rattle.steps.proofs.Laws.Place.{spread-append}
 use Rattle.runs.proofs.Laws.Row.{length-channel, drop-channel, take-channel, getD-channel}
 use Rattle.runs.proofs.Laws.Cut.{lt-or-ge}
 use Rattle.runs.proofs.Laws.Part.{run-some}

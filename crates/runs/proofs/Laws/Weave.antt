@@ -7,7 +7,7 @@ use lib.ListN.{getD, set}
 use lib.Seq.{set-comm}
 use Rattle.steps.specs.Place.{bytesFrom, spread}
 use Rattle.runs.specs.Row.{channel}
-use Rattle.runs.proofs.Laws.Place.{spread-append}
+use Rattle.steps.proofs.Laws.Place.{spread-append}
 
 -- a store before all the places of a spread may come first
 set-spread : (s : List ℕ) (i j : ℕ) (vs : List ℕ) (v : ℕ) → j < i → set (spread 4 s i vs) j v ≡ spread 4 (set s j v) i vs

@@ -1,10 +1,11 @@
 -- The laws that proofs use of `specs/Place.antt`. No contract cites this file. Assumes nothing.
-use Prim.Native.Nat.{ℕ, zero, suc, _+_, _-_, _<_, _≤_}
+use Prim.Native.Nat.{ℕ, zero, suc, _+_, _-_, _*_, _<_, _≤_}
 use mathlib.Core.List.{List, [], _∷_, _++_}
 use mathlib.Core.Path.{_≡_, refl, sym, ap, _∙_}
-use native.Mathlib.Nat.{not-suc-le-zero}
+use native.Mathlib.Nat.{not-suc-le-zero, add-zero}
 use native.Mathlib.Omega.{arith}
-use lib.ListN.{length, getD, set, replicate, length-set}
+use lib.ListN.{length, getD, drop, set, replicate, length-set, length-drop}
+use lib.Seq.{getD-drop, drop-drop, drop-append-seam}
 use Rattle.steps.specs.Place.{bytesFrom, spread}
 
 pub length-spread : {A : Type 0} (d : ℕ) (s : List A) (i : ℕ) (vs : List A) → length (spread d s i vs) ≡ length s
@@ -12,16 +13,16 @@ unfolding spread
 length-spread d s i [] = refl
 length-spread d s i (v ∷ vs) = length-spread d (set s i v) (i + d) vs ∙ length-set s i v
 
--- what is stored after other values is stored after them
-pub spread-append : {A : Type 0} (s : List A) (i : ℕ) (us vs : List A) → spread 1 s i (us ++ vs) ≡ spread 1 (spread 1 s i us) (i + length us) vs
+-- what is stored in two goes
+pub spread-append : {A : Type 0} (d : ℕ) (s : List A) (i : ℕ) (us vs : List A) → spread d s i (us ++ vs) ≡ spread d (spread d s i us) (i + d * length us) vs
 unfolding spread
-spread-append s i [] vs = ap (λ (j : ℕ). spread 1 s j vs) (let e : i ≡ i + 0 = omega arith in e)
-spread-append s i (u ∷ us) vs =
-    let j : i + 1 + length us ≡ i + suc (length us) = omega arith in
-    spread-append (set s i u) (i + 1) us vs ∙ ap (λ (k : ℕ). spread 1 (spread 1 (set s i u) (i + 1) us) k vs) j
+spread-append d s i [] vs = ap (λ (k : ℕ). spread d s k vs) (omega arith)
+spread-append d s i (u ∷ us) vs = spread-append d (set s i u) (i + d) us vs ∙ ap (λ (k : ℕ). spread d (spread d (set s i u) (i + d) us) k vs) (omega arith)
 
 pub spread-then : {A : Type 0} (s s′ : List A) (i j : ℕ) (us vs : List A) → s′ ≡ spread 1 s i us → j ≡ i + length us → spread 1 s i (us ++ vs) ≡ spread 1 s′ j vs
-spread-then s s′ i j us vs e k = spread-append s i us vs ∙ sym (rw (e, k))
+spread-then s s′ i j us vs e k =
+    let place : j ≡ i + 1 * length us = omega arith in
+    spread-append 1 s i us vs ∙ sym (rw (e, place))
 
 -- one value of a run, and the rest
 pub spread-run : {A : Type 0} (d : ℕ) (s : List A) (i n : ℕ) (v : A) → 0 < n → spread d s i (replicate n v) ≡ spread d (set s i v) (i + d) (replicate (n - 1) v)
@@ -70,3 +71,24 @@ unfolding spread
 put-three s o a b c =
     let j : o + 2 ≡ o + 1 + 1 = omega arith in
     rw j
+
+-- ---- What stands at a place of a list
+
+-- the byte x stands at a place, and l after it
+pub drop-next : (src : List ℕ) (at x : ℕ) (l : List ℕ) → drop at src ≡ x ∷ l → (at < length src) × (getD src at 0 ≡ x) × (drop (at + 1) src ≡ l)
+drop-next src at x l e = (
+  omega (arith, ap length e, length-drop at src),
+  ap (λ (i : ℕ). getD src i 0) (sym (add-zero at)) ∙ sym (getD-drop at src 0 0) ∙ ap (λ (m : List ℕ). getD m 0 0) e,
+  sym (drop-drop 1 at src) ∙ ap (drop 1) e,
+)
+
+-- the bytes p stand at a place, and rest after them
+pub drop-past : (src : List ℕ) (at : ℕ) (p rest : List ℕ) → drop at src ≡ p ++ rest → drop (at + length p) src ≡ rest
+drop-past src at p rest e = sym (drop-drop (length p) at src) ∙ ap (drop (length p)) e ∙ drop-append-seam p rest
+
+pub bytes-there : (src : List ℕ) (at : ℕ) (p rest : List ℕ) → drop at src ≡ p ++ rest → bytesFrom src at (length p) ≡ p
+unfolding bytesFrom
+bytes-there src at [] rest e = refl
+bytes-there src at (x ∷ p) rest e =
+    let next = drop-next src at x (p ++ rest) e in
+    rw (next .1) (ap (λ (l : List ℕ). x ∷ l) (bytes-there src (at + 1) p rest (next .2)))
