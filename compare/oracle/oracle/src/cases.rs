@@ -494,7 +494,7 @@ fn damage(random: &mut Random, bytes: &mut Vec<u8>) {
 fn wide_rows(seed: u64, count: usize, sink: Sink) {
     let mut random = Random::new(seed, "wide");
     for number in 0..count {
-        let width = [32_766, 32_767, 32_768, 32_769, 33_000][number % 5];
+        let width = [32_766, 32_767, 32_768, 32_769, 32_900][number % 5];
         let mut bytes = [header(width, 1), row(&mut random, width)].concat();
         if random.once_in(4) {
             bytes.truncate(random.from(20, bytes.len()));
