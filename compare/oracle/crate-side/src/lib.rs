@@ -169,10 +169,11 @@ fn refusal(error: &HdrEncodeErrors) -> Written {
     }
 }
 
-/// Whether a picture fits room of a given size, by writing it there.
-pub fn fits(width: usize, height: usize, samples: &[f32], size: usize) -> bool {
+/// Writes a picture into room of a given size: whether it fits, and the bytes that were written there.
+pub fn write_into(width: usize, height: usize, samples: &[f32], size: usize) -> (bool, usize) {
     let mut room = Room { size, used: 0 };
-    encoder(samples, width, height).encode(&mut room).is_ok()
+    let fits = encoder(samples, width, height).encode(&mut room).is_ok();
+    (fits, room.used)
 }
 
 /// The four-byte pixels of the Rust's own conversion: a picture of width 1 is flat, so they stand in it as they are.

@@ -144,7 +144,7 @@ pub fn written(width: usize, height: usize, room: Option<usize>, samples: &[f32]
         return plain(format!("0 0 {}", file.len()));
     };
     let mut bytes = line::lent_bytes(room);
-    let mut text = if crate_side::fits(width, height, samples, room) {
+    let mut text = if crate_side::write_into(width, height, samples, room).0 {
         bytes[..file.len()].copy_from_slice(&file);
         format!("0 0 {} ", file.len())
     } else {

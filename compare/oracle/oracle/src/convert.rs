@@ -192,7 +192,8 @@ pub fn differences() {
     print_read("missing count", &after(b"#?RGBE\n\n-Y 1 +X 8\n", &[2, 2, 0, 8, 136, 128, 136, 64, 136, 32]), 24);
     print_read("mark of width 1 in a row of 8", &after(b"#?RGBE\n\n-Y 1 +X 8\n", &[2, 2, 0, 1, 136, 128, 136, 64, 136, 32, 136, 129]), 24);
     print_read("count past the row's end", &after(b"#?RGBE\n\n-Y 1 +X 8\n", &[2, 2, 0, 8, 255, 128, 136, 64, 136, 32, 136, 129]), 24);
-    print_read("+X 1 -Y 2: two rows of one", &after(b"#?RGBE\n\n+X 2 -Y 1\n", &[128, 0, 0, 129, 0, 128, 0, 129]), 6);
+    let four = [1, 0, 0, 136, 2, 0, 0, 136, 3, 0, 0, 136, 4, 0, 0, 136];
+    print_read("+X 2 -Y 2: pixels 1, 2, 3, 4 are rows 1 2 and 3 4 (columns by the document)", &after(b"#?RGBE\n\n+X 2 -Y 2\n", &four), 12);
     print_read("FORMAT xyze, EXPOSURE 2, unread", &after(b"#?RGBE\nFORMAT=32-bit_rle_xyze\nEXPOSURE=2\n\n-Y 1 +X 1\n", &[128, 64, 32, 129]), 3);
     print_read("FORMAT that no document knows", &after(b"#?RGBE\nFORMAT=x\n\n-Y 1 +X 1\n", &[128, 64, 32, 129]), 3);
     print_read("a size line with no empty line before it", b"#?RGBE\n-Y 1 +X 1\n", 3);
@@ -212,6 +213,8 @@ pub fn differences() {
     print_write("width 1, height 0", 1, 0, &[]);
     print_write("width 1, height 1, two samples", 1, 1, &[1.0, 1.0]);
     print_write("width 70,000, height 1", 70_000, 1, &vec![1.0; 210_000]);
+    let (fits, used) = crate_side::write_into(1, 1, &[1.0; 3], 66);
+    println!("writer, width 1, height 1, room of 66 bytes: {}, {used} bytes written", if fits { "done" } else { "error" });
     guarantee();
 }
 
