@@ -34,8 +34,14 @@ pub enum Read {
     Panicked,
     /// The output is not whole rows, then untouched ones.
     Torn,
-    Refused { number: u32, row: usize },
-    Sizes { width: usize, height: usize },
+    Refused {
+        number: u32,
+        row: usize,
+    },
+    Sizes {
+        width: usize,
+        height: usize,
+    },
 }
 
 /// A reading, with all that can be seen of it.
@@ -119,11 +125,8 @@ pub fn read(max_width: usize, max_height: usize, length: usize, bytes: &[u8]) ->
         (Ok(Ok(())), _) => Read::Sizes { width: sizes.0, height: sizes.1 },
         (Ok(Err(error)), Some(row)) => Read::Refused { number: number(&error), row },
     };
-    let at_end = trail::with(|t| AtEnd {
-        made_up: t.made_up.get(),
-        refused: t.refused.get(),
-        rewound_nothing: t.rewound_nothing.get(),
-    });
+    let at_end =
+        trail::with(|t| AtEnd { made_up: t.made_up.get(), refused: t.refused.get(), rewound_nothing: t.rewound_nothing.get() });
     Reading { answer, taken: trail::with(|t| t.taken.get()), output, store, wide_fields: wide_fields(bytes), at_end }
 }
 
@@ -187,8 +190,7 @@ pub fn convert(samples: &[f32]) -> Vec<u8> {
 /// `output_buffer_size` of a picture with these sizes.
 pub fn output_buffer_size(width: usize, height: usize) -> Option<usize> {
     let header = format!("#?RGBE\n\n-Y {height} +X {width}\n");
-    let mut decoder =
-        HdrDecoder::new_with_options(ZCursor::new(header.as_bytes()), options(usize::MAX, usize::MAX));
+    let mut decoder = HdrDecoder::new_with_options(ZCursor::new(header.as_bytes()), options(usize::MAX, usize::MAX));
     decoder.decode_headers().expect("a good header");
     decoder.output_buffer_size()
 }

@@ -30,13 +30,9 @@ pub fn answer(text: &str) -> Answer {
 
 fn parsed(fields: &[&str]) -> Option<Answer> {
     match *fields {
-        ["read", w, h, out, store, bytes] => Some(read(
-            line::number(w)?,
-            line::number(h)?,
-            line::number(out)?,
-            line::number(store)?,
-            &line::bytes(bytes)?,
-        )),
+        ["read", w, h, out, store, bytes] => {
+            Some(read(line::number(w)?, line::number(h)?, line::number(out)?, line::number(store)?, &line::bytes(bytes)?))
+        }
         ["head", w, h, bytes] => Some(head(line::number(w)?, line::number(h)?, &line::bytes(bytes)?)),
         ["size", w, h] => Some(size(line::number(w)?, line::number(h)?)),
         ["worst", w, h] => {

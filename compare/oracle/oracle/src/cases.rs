@@ -156,7 +156,9 @@ fn row_beginnings(sink: Sink) {
 /// Every row of up to five bytes, of nine over three letters, for narrow pictures.
 fn flat_pixels(sink: Sink) {
     const KIND: &str = "flat pixels, every short row";
-    for (width, height, letters, longest) in [(1, 1, &[0u8, 1, 2, 128, 129, 255][..], 5), (2, 1, &[1, 2, 129], 9), (1, 2, &[1, 9, 130], 9)] {
+    for (width, height, letters, longest) in
+        [(1, 1, &[0u8, 1, 2, 128, 129, 255][..], 5), (2, 1, &[1, 2, 129], 9), (1, 2, &[1, 9, 130], 9)]
+    {
         lists(&single(letters), longest, &mut |bytes| {
             sink(read_picture(KIND, width, height, &[header(width, height), bytes.to_vec()].concat()));
         });
@@ -268,7 +270,8 @@ fn random_headers(seed: u64, count: usize, sink: Sink) {
 }
 
 fn random_header(random: &mut Random) -> Vec<u8> {
-    let firsts: [&[u8]; 8] = [b"#?RADIANCE\n", b"#?RGBE\n", b"#?RADIANCE\n", b"#?RGBE\n", b"#?RGBE\r\n", b"#?RGBE \n", b"#?RADIANCE", b"#?rgbe\n"];
+    let firsts: [&[u8]; 8] =
+        [b"#?RADIANCE\n", b"#?RGBE\n", b"#?RADIANCE\n", b"#?RGBE\n", b"#?RGBE\r\n", b"#?RGBE \n", b"#?RADIANCE", b"#?rgbe\n"];
     let choice = if random.once_in(20) { 8 } else { 4 };
     let mut bytes = random.one_of(&firsts[..choice]).to_vec();
     for _ in 0..random.below(5) {
@@ -303,8 +306,22 @@ fn random_header(random: &mut Random) -> Vec<u8> {
 
 fn header_line(random: &mut Random) -> Vec<u8> {
     let lines: [&[u8]; 16] = [
-        b"FORMAT=32-bit_rle_rgbe", b"FORMAT=32-bit_rle_xyze", b"EXPOSURE=1.5", b"# a comment", b"#", b"=", b"==", b"a=b=c", b"no sign at all",
-        b"\r", b" ", b"\0", b"-Y 3 +X 3", b"\xc2\xa0=\xff\xfe", b"\x85", b"#?RGBE",
+        b"FORMAT=32-bit_rle_rgbe",
+        b"FORMAT=32-bit_rle_xyze",
+        b"EXPOSURE=1.5",
+        b"# a comment",
+        b"#",
+        b"=",
+        b"==",
+        b"a=b=c",
+        b"no sign at all",
+        b"\r",
+        b" ",
+        b"\0",
+        b"-Y 3 +X 3",
+        b"\xc2\xa0=\xff\xfe",
+        b"\x85",
+        b"#?RGBE",
     ];
     let mut line = match random.below(12) {
         0 => (0..random.from(1, 12)).map(|_| random.byte()).collect(),
@@ -317,8 +334,32 @@ fn header_line(random: &mut Random) -> Vec<u8> {
 
 fn size_text(random: &mut Random) -> Vec<u8> {
     let texts: [&[u8]; 26] = [
-        b"0", b"1", b"2", b"3", b"8", b"9", b"+1", b"+0", b"01", b"+0003", b"", b"+", b"-1", b"-0", b"++1", b"65534", b"65535", b"65536",
-        b"18446744073709551615", b"18446744073709551616", b"99999999999999999999999", b"1a", b"\t2", b"2\r", b"1\x0b\x0c", b"0x1",
+        b"0",
+        b"1",
+        b"2",
+        b"3",
+        b"8",
+        b"9",
+        b"+1",
+        b"+0",
+        b"01",
+        b"+0003",
+        b"",
+        b"+",
+        b"-1",
+        b"-0",
+        b"++1",
+        b"65534",
+        b"65535",
+        b"65536",
+        b"18446744073709551615",
+        b"18446744073709551616",
+        b"99999999999999999999999",
+        b"1a",
+        b"\t2",
+        b"2\r",
+        b"1\x0b\x0c",
+        b"0x1",
     ];
     match random.below(8) {
         0..=2 => random.one_of(&texts).to_vec(),
@@ -439,7 +480,11 @@ fn random_old_runs(seed: u64, count: usize, sink: Sink) {
                 bytes.extend([2, random.one_of(&[1, 2]), random.one_of(&[3, 128, 200]), random.byte()]);
             }
             for _ in 0..random.from(1, width) {
-                bytes.extend(if random.once_in(2) { [1, 1, 1, random.one_of(&[0, 1, 1, 2, 3, 7, 255])] } else { pixel(&mut random) });
+                bytes.extend(if random.once_in(2) {
+                    [1, 1, 1, random.one_of(&[0, 1, 1, 2, 3, 7, 255])]
+                } else {
+                    pixel(&mut random)
+                });
             }
         }
         let case = around(&mut random, "old runs, random", width, height, &bytes);

@@ -13,7 +13,8 @@ const EACH: usize = 20_000;
 struct Band {
     pixels: usize,
     differ: usize,
-    exponents: usize,
+    too_low: usize,
+    too_high: usize,
     mantissas: usize,
     black: usize,
     furthest: f64,
@@ -24,8 +25,8 @@ struct Band {
 pub fn report() {
     println!("Pixels with a largest sample v; the other two are random parts of it.");
     println!("A step is the documents' for that pixel. The difference is that of the values m·2^(E-136).\n");
-    println!("| v from | to below | pixels | other bytes | other exponent byte | same exponent, other mantissas | only black by the crate | furthest, in steps |");
-    println!("|---|---|---|---|---|---|---|---|");
+    println!("| v from | to below | pixels | other bytes | exponent too low | exponent too high | same exponent, other mantissas | black by the crate alone | furthest, in steps |");
+    println!("|---|---|---|---|---|---|---|---|---|");
     let mut random = Random::new(1, "conversion");
     for bounds in BANDS.windows(2) {
         let mut band = Band::default();
@@ -34,8 +35,8 @@ pub fn report() {
         }
         let furthest = if band.unlike > 0 { "no value".to_string() } else { format!("{:.2}", band.furthest) };
         println!(
-            "| 2^{} | 2^{} | {} | {} | {} | {} | {} | {furthest} |",
-            bounds[0], bounds[1], band.pixels, band.differ, band.exponents, band.mantissas, band.black
+            "| 2^{} | 2^{} | {} | {} | {} | {} | {} | {} | {furthest} |",
+            bounds[0], bounds[1], band.pixels, band.differ, band.too_low, band.too_high, band.mantissas, band.black
         );
     }
     named();
@@ -48,7 +49,8 @@ fn one_power(random: &mut Random, power: i32, band: &mut Band) {
     let first = low.to_bits();
     let last = if power == 127 { f32::MAX.to_bits() } else { (low * 2.0).to_bits() - 1 };
     let spread = last - first + 1;
-    let mut tops: Vec<u32> = [0, 1, 2, 3].iter().flat_map(|d| [first + d.min(&(spread - 1)), last - d.min(&(spread - 1))]).collect();
+    let mut tops: Vec<u32> =
+        [0, 1, 2, 3].iter().flat_map(|d| [first + d.min(&(spread - 1)), last - d.min(&(spread - 1))]).collect();
     tops.extend((0..EACH).map(|_| first + (random.next() % spread as u64) as u32));
     let mut samples = Vec::new();
     for bits in tops {
@@ -75,7 +77,8 @@ fn one_pixel(band: &mut Band, samples: &[f32], bytes: &[u8]) {
         return;
     }
     band.differ += 1;
-    band.exponents += (ours[3] != bytes[3]) as usize;
+    band.too_low += (bytes[3] < ours[3]) as usize;
+    band.too_high += (bytes[3] > ours[3]) as usize;
     band.mantissas += (ours[3] == bytes[3]) as usize;
     band.black += (value(bytes, 0) + value(bytes, 1) + value(bytes, 2) == 0.0) as usize;
     let v = samples.iter().copied().fold(0.0, f32::max);
@@ -87,7 +90,11 @@ fn one_pixel(band: &mut Band, samples: &[f32], bytes: &[u8]) {
 
 /// The lower edge of a pixel's step: m·2^(E-136), and 0 if E is 0.
 fn value(pixel: &[u8], i: usize) -> f64 {
-    if pixel[3] == 0 { 0.0 } else { pixel[i] as f64 * (pixel[3] as f64 - 136.0).exp2() }
+    if pixel[3] == 0 {
+        0.0
+    } else {
+        pixel[i] as f64 * (pixel[3] as f64 - 136.0).exp2()
+    }
 }
 
 fn shown(pixel: Option<[u8; 4]>) -> String {
@@ -115,6 +122,8 @@ fn named() {
     print_one("2 three times", [2.0; 3]);
     print_one("2^-32 three times", [2f32.powi(-32); 3]);
     print_one("2^126 three times", [2f32.powi(126); 3]);
+    print_one("the largest below 2^10, 0, 0", [f32::from_bits(2f32.powi(10).to_bits() - 1), 0.0, 0.0]);
+    print_one("the largest below 2^100, 0, 0", [f32::from_bits(2f32.powi(100).to_bits() - 1), 0.0, 0.0]);
     print_one("the largest below 2^127, 0, 0", [below, 0.0, 0.0]);
     print_one("2^127, 1, 1", [two127, 1.0, 1.0]);
     print_one("the largest f32, 0, 0", [f32::MAX, 0.0, 0.0]);
@@ -174,7 +183,12 @@ fn print_read(name: &str, bytes: &[u8], length: usize) {
         .iter()
         .map(|s| if *s == crate_side::UNWRITTEN { "untouched".to_string() } else { f32::from_bits(*s).to_string() })
         .collect();
-    println!("{name}\n  bytes  {}\n  answer {answer}\n  output {}\n  store  {:?}\n", bytes.escape_ascii(), output.join(" "), reading.store);
+    println!(
+        "{name}\n  bytes  {}\n  answer {answer}\n  output {}\n  store  {:?}\n",
+        bytes.escape_ascii(),
+        output.join(" "),
+        reading.store
+    );
 }
 
 /// Runs the crate on a small input for each difference, and prints what it did.
@@ -183,18 +197,50 @@ pub fn differences() {
     print_read("exponent byte 96, as 128 (2^-33 by the document)", &after(b"#?RGBE\n\n-Y 1 +X 1\n", &[128, 0, 0, 96]), 3);
     print_read("exponent byte 160 (2^31 by the document)", &after(b"#?RGBE\n\n-Y 1 +X 1\n", &[128, 0, 0, 160]), 3);
     print_read("old run after one pixel: not taken", &after(b"#?RGBE\n\n-Y 1 +X 2\n", &[9, 9, 9, 136, 1, 1, 1, 1]), 6);
-    print_read("old run after two pixels: one copy ends a row of four", &after(b"#?RGBE\n\n-Y 1 +X 4\n", &[10, 10, 10, 129, 20, 20, 20, 129, 1, 1, 1, 2]), 12);
+    print_read(
+        "old run after two pixels: one copy ends a row of four",
+        &after(b"#?RGBE\n\n-Y 1 +X 4\n", &[10, 10, 10, 129, 20, 20, 20, 129, 1, 1, 1, 2]),
+        12,
+    );
     let row: Vec<u8> = [&[9, 9, 9, 136, 8, 8, 8, 136, 1, 1, 1, 3][..], &[7, 7, 7, 136]].concat();
     print_read("old run in a row of seven: four pixels fewer for each copy", &after(b"#?RGBE\n\n-Y 1 +X 7\n", &row), 21);
-    print_read("row of repeats alone: shown with what the row store had", &after(b"#?RGBE\n\n-Y 1 +X 1\n", &[1, 1, 1, 0, 1, 1, 1, 0, 1, 1, 1, 0]), 3);
-    print_read("missing run byte in the last channel", &after(b"#?RGBE\n\n-Y 1 +X 8\n", &[2, 2, 0, 8, 136, 128, 136, 64, 136, 32, 136]), 24);
-    print_read("missing literal bytes in the last channel", &after(b"#?RGBE\n\n-Y 1 +X 8\n", &[2, 2, 0, 8, 136, 128, 136, 64, 136, 32, 8, 129]), 24);
+    print_read(
+        "row of repeats alone: shown with what the row store had",
+        &after(b"#?RGBE\n\n-Y 1 +X 1\n", &[1, 1, 1, 0, 1, 1, 1, 0, 1, 1, 1, 0]),
+        3,
+    );
+    print_read(
+        "missing run byte in the last channel",
+        &after(b"#?RGBE\n\n-Y 1 +X 8\n", &[2, 2, 0, 8, 136, 128, 136, 64, 136, 32, 136]),
+        24,
+    );
+    print_read(
+        "missing literal bytes in the last channel",
+        &after(b"#?RGBE\n\n-Y 1 +X 8\n", &[2, 2, 0, 8, 136, 128, 136, 64, 136, 32, 8, 129]),
+        24,
+    );
     print_read("missing count", &after(b"#?RGBE\n\n-Y 1 +X 8\n", &[2, 2, 0, 8, 136, 128, 136, 64, 136, 32]), 24);
-    print_read("mark of width 1 in a row of 8", &after(b"#?RGBE\n\n-Y 1 +X 8\n", &[2, 2, 0, 1, 136, 128, 136, 64, 136, 32, 136, 129]), 24);
-    print_read("count past the row's end", &after(b"#?RGBE\n\n-Y 1 +X 8\n", &[2, 2, 0, 8, 255, 128, 136, 64, 136, 32, 136, 129]), 24);
+    print_read(
+        "mark of width 1 in a row of 8",
+        &after(b"#?RGBE\n\n-Y 1 +X 8\n", &[2, 2, 0, 1, 136, 128, 136, 64, 136, 32, 136, 129]),
+        24,
+    );
+    print_read(
+        "count past the row's end",
+        &after(b"#?RGBE\n\n-Y 1 +X 8\n", &[2, 2, 0, 8, 255, 128, 136, 64, 136, 32, 136, 129]),
+        24,
+    );
     let four = [1, 0, 0, 136, 2, 0, 0, 136, 3, 0, 0, 136, 4, 0, 0, 136];
-    print_read("+X 2 -Y 2: pixels 1, 2, 3, 4 are rows 1 2 and 3 4 (columns by the document)", &after(b"#?RGBE\n\n+X 2 -Y 2\n", &four), 12);
-    print_read("FORMAT xyze, EXPOSURE 2, unread", &after(b"#?RGBE\nFORMAT=32-bit_rle_xyze\nEXPOSURE=2\n\n-Y 1 +X 1\n", &[128, 64, 32, 129]), 3);
+    print_read(
+        "+X 2 -Y 2: pixels 1, 2, 3, 4 are rows 1 2 and 3 4 (columns by the document)",
+        &after(b"#?RGBE\n\n+X 2 -Y 2\n", &four),
+        12,
+    );
+    print_read(
+        "FORMAT xyze, EXPOSURE 2, unread",
+        &after(b"#?RGBE\nFORMAT=32-bit_rle_xyze\nEXPOSURE=2\n\n-Y 1 +X 1\n", &[128, 64, 32, 129]),
+        3,
+    );
     print_read("FORMAT that no document knows", &after(b"#?RGBE\nFORMAT=x\n\n-Y 1 +X 1\n", &[128, 64, 32, 129]), 3);
     print_read("a size line with no empty line before it", b"#?RGBE\n-Y 1 +X 1\n", 3);
     for (name, space) in [("no-break space", "\u{a0}"), ("next line", "\u{85}"), ("ideographic space", "\u{3000}")] {
@@ -202,7 +248,11 @@ pub fn differences() {
         print_read(&format!("{name} after an axis"), header.as_bytes(), 0);
     }
     print_read("row's first byte missing, width 8", b"#?RGBE\n\n-Y 1 +X 8\n", 24);
-    print_read("second row's first byte missing, width 8", &after(b"#?RGBE\n\n-Y 2 +X 8\n", &[2, 2, 0, 8, 136, 128, 136, 64, 136, 32, 136, 129]), 48);
+    print_read(
+        "second row's first byte missing, width 8",
+        &after(b"#?RGBE\n\n-Y 2 +X 8\n", &[2, 2, 0, 8, 136, 128, 136, 64, 136, 32, 136, 129]),
+        48,
+    );
     match crate_side::head(usize::MAX, usize::MAX, b"#?RGBE\n\n-Y 4294967296 +X 4294967296\n").0 {
         Head::Sizes { .. } => println!("sizes of 2^32 with no limits: the header is taken"),
         _ => println!("sizes of 2^32 with no limits: refused"),

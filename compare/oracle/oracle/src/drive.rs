@@ -61,7 +61,11 @@ pub fn compare(seed: u64, count: u64, skies: &str, differences: &str, program: &
     if ended_early {
         println!("the program ended before its last answer");
     }
-    if ended_early || table.iter().any(|(_, c)| c.differences > 0) { ExitCode::from(1) } else { ExitCode::SUCCESS }
+    if ended_early || table.iter().any(|(_, c)| c.differences > 0) {
+        ExitCode::from(1)
+    } else {
+        ExitCode::SUCCESS
+    }
 }
 
 fn panic_with(words: &str) -> ! {

@@ -23,7 +23,11 @@ pub fn lent_bytes(length: usize) -> Vec<u8> {
 pub fn number(text: &str) -> Option<usize> {
     let digits = text.bytes().all(|b| b.is_ascii_digit());
     let leading = text.len() > 1 && text.starts_with('0');
-    if digits && !leading { text.parse().ok() } else { None }
+    if digits && !leading {
+        text.parse().ok()
+    } else {
+        None
+    }
 }
 
 fn digit(byte: u8) -> Option<u8> {

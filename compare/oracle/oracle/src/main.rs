@@ -12,7 +12,8 @@ mod writer_cases;
 use std::io::{self, BufRead, BufWriter, Write};
 use std::process::ExitCode;
 
-const USAGE: &str = "usage: oracle answer | cases SEED COUNT | compare SEED COUNT SKIES DIFFERENCES PROGRAM [ARGUMENT..] | convert | differences";
+const USAGE: &str =
+    "usage: oracle answer | cases SEED COUNT | compare SEED COUNT SKIES DIFFERENCES PROGRAM [ARGUMENT..] | convert | differences";
 
 fn main() -> ExitCode {
     std::panic::set_hook(Box::new(|_| {}));

@@ -7,7 +7,11 @@ const BLACK: u32 = 0x0a4f_b11f;
 fn parts(bits: u32) -> (u32, i32) {
     let exponent = (bits >> 23) as i32;
     let fraction = bits & 0x7f_ffff;
-    if exponent == 0 { (fraction, -149) } else { (fraction | 0x80_0000, exponent - 150) }
+    if exponent == 0 {
+        (fraction, -149)
+    } else {
+        (fraction | 0x80_0000, exponent - 150)
+    }
 }
 
 /// The largest sample that is a number; none if there is none.
@@ -48,5 +52,9 @@ fn mantissa(sample: f32, e: i32) -> u8 {
     }
     let (whole, power) = parts(sample.to_bits());
     let shift = power + 8 - e;
-    if shift >= 0 { (whole << shift) as u8 } else { whole.checked_shr(-shift as u32).unwrap_or(0) as u8 }
+    if shift >= 0 {
+        (whole << shift) as u8
+    } else {
+        whole.checked_shr(-shift as u32).unwrap_or(0) as u8
+    }
 }

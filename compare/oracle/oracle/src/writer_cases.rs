@@ -97,7 +97,9 @@ fn noise(random: &mut Random) -> [u8; 4] {
 
 fn ramp(random: &mut Random, width: usize) -> Vec<[u8; 4]> {
     let steps = [random.from(1, 9), random.from(1, 200), random.from(1, 40)];
-    (0..width).map(|x| [128 | (x / steps[0]) as u8, (x / steps[1]) as u8, (x * steps[2]) as u8, 130 + ((x / steps[1]) & 15) as u8]).collect()
+    (0..width)
+        .map(|x| [128 | (x / steps[0]) as u8, (x / steps[1]) as u8, (x * steps[2]) as u8, 130 + ((x / steps[1]) & 15) as u8])
+        .collect()
 }
 
 /// Each channel in runs of its own, of lengths that are mostly short or near a bound.
@@ -174,7 +176,22 @@ fn samples_that_agree(seed: u64, count: usize, sink: Sink) {
 /// Single pixels of every sort, held to document 01 alone.
 fn pixels_by_document(seed: u64, count: usize, sink: Sink) {
     let mut random = Random::new(seed, "pixels");
-    let special = [0, 0x8000_0000, 1, 0x7f80_0000, 0xff80_0000, 0x7fc0_0000, 0x7f80_0001, 0xffff_ffff, 0x0a4f_b11e, 0x0a4f_b11f, 0x0a4f_b120, 0x7eff_ffff, 0x7f00_0000, 0xbf80_0000];
+    let special = [
+        0,
+        0x8000_0000,
+        1,
+        0x7f80_0000,
+        0xff80_0000,
+        0x7fc0_0000,
+        0x7f80_0001,
+        0xffff_ffff,
+        0x0a4f_b11e,
+        0x0a4f_b11f,
+        0x0a4f_b120,
+        0x7eff_ffff,
+        0x7f00_0000,
+        0xbf80_0000,
+    ];
     for _ in 0..count {
         let base = random.next() as u32;
         let samples = [0; 3].map(|_| {
