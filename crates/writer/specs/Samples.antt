@@ -1,7 +1,8 @@
 -- A frame of samples: its pixels as four bytes each, and the first that cannot be written.
-use Prim.Native.Nat.{ℕ, zero, suc, _+_}
+use Prim.Native.Nat.{ℕ, zero, suc, _+_, _*_, _<_}
 use mathlib.Core.Bool.{true, false}
 use mathlib.Core.List.{List, [], _∷_}
+use mathlib.Core.Path.{_≡_}
 use lib.ListN.{getD}
 use lib.Ieee.{Float, nan}
 use Rattle.pixel.specs.declared.Pixel.{Pixel}
@@ -25,3 +26,9 @@ packed samples i (suc n) = four (bytesOf (pixelAt samples i)) (packed samples (i
 unfoldable pub firstBright : List Float → ℕ → ℕ → ℕ
 firstBright samples i zero = zero
 firstBright samples i (suc n) = elim (tooBright (pixelAt samples i)) [ true ↦ zero | false ↦ suc (firstBright samples (i + 3) n) ]
+
+-- of n pixels, k is the first that cannot be written
+pub record FirstBright (samples : List Float) (n k : ℕ) : Type 0 where
+  pub within : k < n
+  pub bright : tooBright (pixelAt samples (3 * k)) ≡ true
+  pub first : (j : ℕ) → j < k → tooBright (pixelAt samples (3 * j)) ≡ false

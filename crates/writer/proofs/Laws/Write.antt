@@ -1,0 +1,1 @@
+-- The laws that proofs use of `specs/Write.antt`.
