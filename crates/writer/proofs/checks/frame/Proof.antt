@@ -1,33 +1,27 @@
+-- `writer::checks::frame` meets its contract: the checks of the sizes, and then that of the count.
 use borrow.Author.Needs.{needs}
+use native.Mathlib.Omega.{arith}
+use Rattle.writer.proofs.Laws.Write.{sizes-area, sizes-count, frame-sizes, frame-wrong, frame-good}
 use Rattle.writer.proofs.checks.frame.Statement.{statement}
 use Rattle.writer.proofs.checks.frame.Tie as tie
-use Rattle.writer.proofs.checks.frame.Reads as reads
-use Rattle.writer.proofs.checks.frame.Lts as lts
-use Rattle.writer.proofs.checks.sizes.Reads as sizes-reads
 
--- src/checks.rt:26:9
 sizes-requires : tie.Need-sizes-requires
 sizes-requires c κs = search needs
 
--- src/checks.rt:28:9
 returns : tie.Need-returns
-returns c = ?
+returns c = search frame-sizes
 
--- src/checks.rt:30:23
 mul-if2 : tie.Need-mul-if2
-mul-if2 c = ?
+mul-if2 c = record { fits = search sizes-area }
 
--- src/checks.rt:30:15
 mul-if2-2 : tie.Need-mul-if2-2
-mul-if2-2 c = ?
+mul-if2-2 c = record { fits = search sizes-count }
 
--- src/checks.rt:31:9
 returns-2 : tie.Need-returns-2
-returns-2 c = ?
+returns-2 c = search frame-wrong
 
--- src/checks.rt:22:1
 returns-3 : tie.Need-returns-3
-returns-3 c = ?
+returns-3 c = search frame-good
 
 pub frame-spec : {M : Type 1} → statement M
 frame-spec = tie.close (tie.spec sizes-requires returns mul-if2 mul-if2-2 returns-2 returns-3)

@@ -1,50 +1,47 @@
+-- `writer::frame::rows_length` meets its contract. The invariant: the count and the rows that are left make the length of all.
+use borrow.Author.Needs.{needs}
+use mathlib.Core.Path.{_≡_}
+use Prim.Native.Nat.{_+_, _*_, _^_, _≤_}
+use native.Mathlib.Omega.{arith}
+use lib.ListN.{length}
+use Rattle.writer.specs.Frame.{rowsOf}
+use Rattle.writer.proofs.Laws.Frame.{room-row, room-again, rows-fit, rows-counted, rows-count-fits, rows-count-end}
 use Rattle.writer.proofs.frame.rows_length.Statement.{statement}
 use Rattle.writer.proofs.frame.rows_length.Tie as tie
-use Rattle.writer.proofs.frame.rows_length.Reads as reads
-use Rattle.writer.proofs.frame.rows_length.Lts as lts
-use Rattle.runs.proofs.row_length.Reads as row-length-reads
 
 abbrev Inv-loop : tie.InvT-loop
-Inv-loop px width height at₀ left₀ n₀ at left n = ?
+Inv-loop px width height at₀ left₀ n₀ at left n =
+    (at + 4 * (width * left) ≤ length px) × (n + length (rowsOf px at width left) ≡ length (rowsOf px 0 width height)) × (length (rowsOf px 0 width height) ≤ 2 ^ 35)
 
 abbrev μ-loop : tie.MeasureT-loop
-μ-loop px width height at₀ left₀ n₀ at left n = ?
+μ-loop px width height at₀ left₀ n₀ at left n = left
 
--- src/frame.rt:37:5
 loop-holds : tie.Need-loop-holds Inv-loop μ-loop
-loop-holds c = ?
+loop-holds c = (search needs, omega arith, search rows-fit)
 
--- src/frame.rt:38:14
 row-length-requires : tie.Need-row-length-requires Inv-loop μ-loop
-row-length-requires c κs = ?
+row-length-requires c κs = search room-row
 
--- src/frame.rt:38:9
 add-n : tie.Need-add-n Inv-loop μ-loop
-add-n c = ?
+add-n c = record { fits = search rows-count-fits }
 
--- src/frame.rt:39:15
 mul-at : tie.Need-mul-at Inv-loop μ-loop
-mul-at c = ?
+mul-at c = search needs
 
--- src/frame.rt:39:9
 add-at : tie.Need-add-at Inv-loop μ-loop
-add-at c = ?
+add-at c = omega (arith, room-row 4 _ _ _ _ (c .before .before .loop .inv .0) (c .before .loop-test .taken))
 
--- src/frame.rt:40:9
 sub-left : tie.Need-sub-left Inv-loop μ-loop
-sub-left c = ?
+sub-left c = search needs
 
--- src/frame.rt:37:5
 loop-less : tie.Need-loop-less Inv-loop μ-loop
-loop-less c = ?
+loop-less c = search needs
 
--- src/frame.rt:37:5
 loop-again : tie.Need-loop-again Inv-loop μ-loop
-loop-again c = ?
+loop-again c = (search room-again, search rows-counted, search needs)
 
--- src/frame.rt:30:1
 returns : tie.Need-returns Inv-loop μ-loop
-returns c = ?
+returns c = search rows-count-end
 
 pub rows-length-spec : {M : Type 1} → statement M
 rows-length-spec =

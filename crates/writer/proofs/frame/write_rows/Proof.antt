@@ -1,50 +1,49 @@
+-- `writer::frame::write_rows` meets its contract. The invariant: storing the rows that are left gives what is wanted.
+use borrow.Author.Needs.{needs}
+use mathlib.Core.Path.{_≡_, refl}
+use Prim.Native.Nat.{_+_, _*_, _≤_}
+use native.Mathlib.Omega.{arith}
+use lib.ListN.{length}
+use Rattle.steps.specs.Place.{spread}
+use Rattle.writer.specs.Frame.{rowsOf}
+use Rattle.writer.proofs.Laws.Frame.{room-row, room-again, rows-row-fits, rows-placed, rows-kept, rows-count-end, rows-store-end}
 use Rattle.writer.proofs.frame.write_rows.Statement.{statement}
 use Rattle.writer.proofs.frame.write_rows.Tie as tie
-use Rattle.writer.proofs.frame.write_rows.Reads as reads
-use Rattle.writer.proofs.frame.write_rows.Lts as lts
-use Rattle.runs.proofs.write_row.Reads as write-row-reads
 
 abbrev Inv-loop : tie.InvT-loop
-Inv-loop px width height out₀ to at₀ left₀ o₀ out at left o = ?
+Inv-loop px width height out₀ to at₀ left₀ o₀ out at left o =
+    (at + 4 * (width * left) ≤ length px) × (length out ≡ length out₀) × (o + length (rowsOf px at width left) ≡ to + length (rowsOf px 0 width height))
+    × (spread 1 out o (rowsOf px at width left) ≡ spread 1 out₀ to (rowsOf px 0 width height))
 
 abbrev μ-loop : tie.MeasureT-loop
-μ-loop px width height out₀ to at₀ left₀ o₀ out at left o = ?
+μ-loop px width height out₀ to at₀ left₀ o₀ out at left o = left
 
--- src/frame.rt:72:5
 loop-holds : tie.Need-loop-holds Inv-loop μ-loop
-loop-holds c = ?
+loop-holds c = (search needs, refl, refl, refl)
 
--- src/frame.rt:73:9
 write-row-requires : tie.Need-write-row-requires Inv-loop μ-loop
-write-row-requires c κs = ?
+write-row-requires c κs = (search room-row, search rows-row-fits)
 
--- src/frame.rt:74:15
 mul-at : tie.Need-mul-at Inv-loop μ-loop
-mul-at c = ?
+mul-at c = omega (arith, room-row 4 _ _ _ _ (c .before .before .before .before .before .loop .inv .0) (c .before .before .before .before .loop-test .taken))
 
--- src/frame.rt:74:9
 add-at : tie.Need-add-at Inv-loop μ-loop
-add-at c = ?
+add-at c = omega (arith, room-row 4 _ _ _ _ (c .before .before .before .before .before .loop .inv .0) (c .before .before .before .before .loop-test .taken))
 
--- src/frame.rt:75:9
 sub-left : tie.Need-sub-left Inv-loop μ-loop
-sub-left c = ?
+sub-left c = search needs
 
--- src/frame.rt:72:5
 loop-less : tie.Need-loop-less Inv-loop μ-loop
-loop-less c = ?
+loop-less c = search needs
 
--- src/frame.rt:72:5
 loop-again : tie.Need-loop-again Inv-loop μ-loop
-loop-again c = ?
+loop-again c = (search room-again, search needs, search rows-placed, search rows-kept)
 
--- src/frame.rt:65:1
 same-length : tie.Need-same-length Inv-loop μ-loop
-same-length c = ?
+same-length c = search needs
 
--- src/frame.rt:65:1
 returns : tie.Need-returns Inv-loop μ-loop
-returns c = ?
+returns c = (search rows-count-end, search rows-store-end)
 
 pub write-rows-spec : {M : Type 1} → statement M
 write-rows-spec =

@@ -1,77 +1,70 @@
+-- `writer::samples::first_bright` meets its contract. The invariant: the pixels looked at come before the first that is too bright, and it is the first of those that are left.
+use borrow.Author.Needs.{needs}
+use mathlib.Core.Path.{_≡_}
+use Prim.Native.Nat.{_+_, _-_, _*_, _<_, _≤_}
+use native.Mathlib.Omega.{arith}
+use Rattle.writer.specs.Samples.{firstBright}
+use Rattle.writer.proofs.Laws.Samples.{bright-start, bright-found, bright-again, bright-none, pixel-within, row-ends}
 use Rattle.writer.proofs.samples.first_bright.Statement.{statement}
 use Rattle.writer.proofs.samples.first_bright.Tie as tie
-use Rattle.writer.proofs.samples.first_bright.Reads as reads
-use Rattle.writer.proofs.samples.first_bright.Lts as lts
-use Rattle.pixel.proofs.is_too_bright.Reads as is-too-bright-reads
-use Rattle.writer.proofs.samples.pixel_at.Reads as pixel-at-reads
 
 abbrev Inv-loop : tie.InvT-loop
-Inv-loop samples width height k₀ row column₀ k column = ?
+Inv-loop samples width height k₀ row column₀ k column =
+    (row < height) × (column ≤ width) × (k ≡ width * row + column) × (k + firstBright samples (3 * k) (width * height - k) ≡ firstBright samples 0 (width * height))
 
 abbrev μ-loop : tie.MeasureT-loop
-μ-loop samples width height k₀ row column₀ k column = ?
+μ-loop samples width height k₀ row column₀ k column = width - column
 
 abbrev Inv-rows : tie.InvT-rows
-Inv-rows samples width height k₀ row₀ k row = ?
+Inv-rows samples width height k₀ row₀ k row =
+    (row ≤ height) × (k ≡ width * row) × (k + firstBright samples (3 * k) (width * height - k) ≡ firstBright samples 0 (width * height))
 
 abbrev μ-rows : tie.MeasureT-rows
-μ-rows samples width height k₀ row₀ k row = ?
+μ-rows samples width height k₀ row₀ k row = height - row
 
--- src/samples.rt:35:5
 rows-holds : tie.Need-rows-holds Inv-loop μ-loop Inv-rows μ-rows
-rows-holds c = ?
+rows-holds c = (search needs, omega arith, search bright-start)
 
--- src/samples.rt:37:9
 loop-holds : tie.Need-loop-holds Inv-loop μ-loop Inv-rows μ-rows
-loop-holds c = ?
+loop-holds c = (search needs, search needs, omega arith, search needs)
 
--- src/samples.rt:38:55
 mul-pixel-at : tie.Need-mul-pixel-at Inv-loop μ-loop Inv-rows μ-rows
-mul-pixel-at c = ?
+mul-pixel-at c = omega (arith, pixel-within _ _ _ _ _ (c .before .loop .inv .2) (c .before .loop .inv .0) (c .loop-test .taken))
 
--- src/samples.rt:38:37
 pixel-at-requires : tie.Need-pixel-at-requires Inv-loop μ-loop Inv-rows μ-rows
-pixel-at-requires c κs = ?
+pixel-at-requires c κs = omega (arith, pixel-within _ _ _ _ _ (c .before .loop .inv .2) (c .before .loop .inv .0) (c .loop-test .taken))
 
--- src/samples.rt:38:16
 is-too-bright-requires : tie.Need-is-too-bright-requires Inv-loop μ-loop Inv-rows μ-rows
-is-too-bright-requires c κs = ?
+is-too-bright-requires c κs = search needs
 
--- src/samples.rt:41:13
 add-k : tie.Need-add-k Inv-loop μ-loop Inv-rows μ-rows
-add-k c = ?
+add-k c =
+    let at = c .before .before .before in
+    omega (arith, pixel-within _ _ _ _ _ (at .before .loop .inv .2) (at .before .loop .inv .0) (at .loop-test .taken))
 
--- src/samples.rt:42:13
 add-column : tie.Need-add-column Inv-loop μ-loop Inv-rows μ-rows
-add-column c = ?
+add-column c = search needs
 
--- src/samples.rt:37:9
 loop-less : tie.Need-loop-less Inv-loop μ-loop Inv-rows μ-rows
-loop-less c = ?
+loop-less c = search needs
 
--- src/samples.rt:37:9
 loop-again : tie.Need-loop-again Inv-loop μ-loop Inv-rows μ-rows
-loop-again c = ?
+loop-again c = (search needs, search needs, omega arith, search bright-again)
 
--- src/samples.rt:44:9
 add-row : tie.Need-add-row Inv-loop μ-loop Inv-rows μ-rows
-add-row c = ?
+add-row c = search needs
 
--- src/samples.rt:35:5
 rows-less : tie.Need-rows-less Inv-loop μ-loop Inv-rows μ-rows
-rows-less c = ?
+rows-less c = search needs
 
--- src/samples.rt:35:5
 rows-again : tie.Need-rows-again Inv-loop μ-loop Inv-rows μ-rows
-rows-again c = ?
+rows-again c = (search needs, search row-ends, search needs)
 
--- src/samples.rt:29:1
 returns : tie.Need-returns Inv-loop μ-loop Inv-rows μ-rows
-returns c = ?
+returns c = search bright-none
 
--- src/samples.rt:29:1
 returns-2 : tie.Need-returns-2 Inv-loop μ-loop Inv-rows μ-rows
-returns-2 c = ?
+returns-2 c = search bright-found
 
 pub first-bright-spec : {M : Type 1} → statement M
 first-bright-spec =
