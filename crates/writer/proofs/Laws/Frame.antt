@@ -6,12 +6,14 @@ use mathlib.Core.Path.{_≡_, refl, sym, ap, _∙_}
 use native.Mathlib.Nat.{not-suc-le-zero, mul-suc, mul-add, mul-le-mul}
 use native.Mathlib.Numerals.{add-one}
 use native.Mathlib.Omega.{arith}
+use borrow.Author.Tests.{le-leb}
 use lib.ListN.{length, getD, set, drop, length-append, List·getD-append}
 use lib.Seq.{sets, sets-eq, getD-append-add}
+use lib.Dec.{leb}
 use lib.Ieee.{Float}
 use Rattle.steps.specs.Loop.{pick}
 use Rattle.steps.specs.Place.{spread, bytesFrom}
-use Rattle.steps.proofs.Laws.Place.{spread-then}
+use Rattle.steps.proofs.Laws.Place.{length-spread, spread-then}
 use Rattle.header.specs.Written.{written, digits}
 use Rattle.header.proofs.Laws.Written.{written-length, digits-few}
 use Rattle.runs.specs.Row.{isCoded, rowOf, worstRow, worstChannel}
@@ -275,3 +277,41 @@ module _ (w h : ℕ) (hw : w ≤ 65535) (hh : h ≤ 65535) where
       pub worst-is : n + h * r ≡ worstOf w h
       unfolding worstOf
       worst-is = omega (arith, ap (λ (k : ℕ). h * k) er)
+
+-- ---- A frame is its header and its rows
+
+module _ (px : List ℕ) (w h n : ℕ) (en : n ≡ length (written w h)) where
+  pub frame-is : (r : ℕ) → r ≡ length (rowsOf px 0 w h) → n + r ≡ length (frameOf px w h)
+  frame-is r er = omega (arith, frame-size px w h)
+
+  pub frame-sum : (r : ℕ) → r ≡ length (rowsOf px 0 w h) → w ≤ 65535 → h ≤ 65535 → n + r < 2 ^ 64
+  frame-sum r er hw hh = omega (arith, header-fits w h hw hh, rows-fit w h hw hh px)
+
+  pub frame-placed : (r : ℕ) → r ≡ n + length (rowsOf px 0 w h) → r ≡ length (frameOf px w h)
+  frame-placed r er = omega (arith, frame-size px w h)
+
+  module _ (out out′ : List ℕ) (es : out′ ≡ spread 1 out 0 (written w h)) where
+    pub frame-rows : length (frameOf px w h) ≤ length out → n + length (rowsOf px 0 w h) ≤ length out′
+    frame-rows l = omega (arith, frame-size px w h, ap length es, length-spread 1 out 0 (written w h))
+
+    pub frame-stored : (out″ : List ℕ) → out″ ≡ spread 1 out′ n (rowsOf px 0 w h) → out″ ≡ spread 1 out 0 (frameOf px w h)
+    unfolding frameOf
+    frame-stored out″ et =
+        let at : n ≡ 0 + length (written w h) = omega arith in
+        et ∙ sym (spread-then out out′ 0 n (written w h) (rowsOf px 0 w h) es at)
+
+module _ (px : List ℕ) (w h : ℕ) (room n : ℕ) where
+  pub frame-header : length (frameOf px w h) ≤ room → length (written w h) ≤ room
+  frame-header l = omega (arith, frame-size px w h)
+
+  -- where the worst length fits, the frame fits
+  pub fits-worst : n ≡ worstOf w h → n ≤ room → true ≡ leb (length (frameOf px w h)) room
+  fits-worst e l = sym (le-leb (length (frameOf px w h)) room (omega (arith, frame-worst px w h)))
+
+  pub fits-own : n ≡ length (frameOf px w h) → leb n room ≡ leb (length (frameOf px w h)) room
+  fits-own e = rw e
+
+-- height 0 is the header alone
+pub frame-none : (px : List ℕ) (w : ℕ) → frameOf px w 0 ≡ written w 0
+unfolding frameOf rowsOf
+frame-none px w = append-nil (written w 0)

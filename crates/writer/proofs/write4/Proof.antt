@@ -1,48 +1,35 @@
+-- `writer::write4` meets its contract: each `return` is a refusal, or the file is stored.
 use borrow.Author.Needs.{needs}
+use Rattle.writer.proofs.Laws.Write.{frame-wide, frame-high, frame-room, room-told, write4-refused, write4-short, write4-done}
 use Rattle.writer.proofs.write4.Statement.{statement}
 use Rattle.writer.proofs.write4.Tie as tie
-use Rattle.writer.proofs.write4.Reads as reads
-use Rattle.writer.proofs.write4.Lts as lts
-use Rattle.writer.proofs.checks.frame.Reads as frame-reads
-use Rattle.writer.proofs.frame.fits.Reads as fits-reads
-use Rattle.writer.proofs.frame.write_frame.Reads as write-frame-reads
-use Rattle.writer.proofs.refused.Reads as refused-reads
 
--- src/lib.rt:107:9
 frame-requires : tie.Need-frame-requires
 frame-requires c κs = search needs
 
--- src/lib.rt:109:9
 refused-requires : tie.Need-refused-requires
 refused-requires c κs = search needs
 
--- src/lib.rt:109:9
 returns : tie.Need-returns
-returns c = ?
+returns c = search write4-refused
 
--- src/lib.rt:111:8
 fits-requires : tie.Need-fits-requires
-fits-requires c κs = ?
+fits-requires c κs = (search frame-wide, search frame-high, search frame-room)
 
--- src/lib.rt:112:34
 write-frame-requires : tie.Need-write-frame-requires
-write-frame-requires c κs = ?
+write-frame-requires c κs = (search frame-room, search room-told)
 
--- src/lib.rt:112:9
 same-length : tie.Need-same-length
 same-length c = search needs
 
--- src/lib.rt:112:9
 returns-2 : tie.Need-returns-2
-returns-2 c = ?
+returns-2 c = search write4-done
 
--- src/lib.rt:114:5
 refused-requires-2 : tie.Need-refused-requires-2
 refused-requires-2 c κs = search needs
 
--- src/lib.rt:104:1
 returns-3 : tie.Need-returns-3
-returns-3 c = ?
+returns-3 c = search write4-short
 
 pub write4-spec : {M : Type 1} → statement M
 write4-spec =

@@ -1,23 +1,20 @@
+-- `writer::checks::sizes` meets its contract: each `return` is a check, or none fails.
+use borrow.Author.Needs.{needs}
+use Rattle.writer.proofs.Laws.Write.{sizes-no-width, sizes-over-w, sizes-over-h, sizes-good}
 use Rattle.writer.proofs.checks.sizes.Statement.{statement}
 use Rattle.writer.proofs.checks.sizes.Tie as tie
-use Rattle.writer.proofs.checks.sizes.Reads as reads
-use Rattle.writer.proofs.checks.sizes.Lts as lts
 
--- src/checks.rt:12:9
 returns : tie.Need-returns
-returns c = ?
+returns c = search sizes-no-width
 
--- src/checks.rt:15:9
 returns-2 : tie.Need-returns-2
-returns-2 c = ?
+returns-2 c = search sizes-over-w
 
--- src/checks.rt:18:9
 returns-3 : tie.Need-returns-3
-returns-3 c = ?
+returns-3 c = search sizes-over-h
 
--- src/checks.rt:8:1
 returns-4 : tie.Need-returns-4
-returns-4 c = ?
+returns-4 c = search sizes-good
 
 pub sizes-spec : {M : Type 1} → statement M
 sizes-spec = tie.close (tie.spec returns returns-2 returns-3 returns-4)

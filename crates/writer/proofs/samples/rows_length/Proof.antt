@@ -1,50 +1,47 @@
+-- `writer::samples::rows_length` meets its contract. The invariant: the count and the rows that are left make the length of all.
+use borrow.Author.Needs.{needs}
+use mathlib.Core.Path.{_≡_}
+use Prim.Native.Nat.{_+_, _*_, _^_, _≤_}
+use native.Mathlib.Omega.{arith}
+use lib.ListN.{length}
+use Rattle.writer.proofs.Laws.Frame.{sampleRows, room-row, room-again, rows-fit, samples-counted, samples-count-fits, rows-count-end}
 use Rattle.writer.proofs.samples.rows_length.Statement.{statement}
 use Rattle.writer.proofs.samples.rows_length.Tie as tie
-use Rattle.writer.proofs.samples.rows_length.Reads as reads
-use Rattle.writer.proofs.samples.rows_length.Lts as lts
-use Rattle.writer.proofs.samples.row_length.Reads as row-length-reads
 
 abbrev Inv-loop : tie.InvT-loop
-Inv-loop samples width height line₀ at₀ left₀ n₀ line at left n = ?
+Inv-loop samples width height line₀ at₀ left₀ n₀ line at left n =
+    (at + 3 * (width * left) ≤ length samples) × (n + length (sampleRows samples width at left) ≡ length (sampleRows samples width 0 height))
+    × (length (sampleRows samples width 0 height) ≤ 2 ^ 35)
 
 abbrev μ-loop : tie.MeasureT-loop
-μ-loop samples width height line₀ at₀ left₀ n₀ line at left n = ?
+μ-loop samples width height line₀ at₀ left₀ n₀ line at left n = left
 
--- src/samples.rt:116:5
 loop-holds : tie.Need-loop-holds Inv-loop μ-loop
-loop-holds c = ?
+loop-holds c = (search needs, omega arith, search rows-fit)
 
--- src/samples.rt:117:14
 row-length-requires : tie.Need-row-length-requires Inv-loop μ-loop
-row-length-requires c κs = ?
+row-length-requires c κs = search room-row
 
--- src/samples.rt:117:9
 add-n : tie.Need-add-n Inv-loop μ-loop
-add-n c = ?
+add-n c = record { fits = search samples-count-fits }
 
--- src/samples.rt:118:15
 mul-at : tie.Need-mul-at Inv-loop μ-loop
-mul-at c = ?
+mul-at c = search needs
 
--- src/samples.rt:118:9
 add-at : tie.Need-add-at Inv-loop μ-loop
-add-at c = ?
+add-at c = omega (arith, room-row 3 _ _ _ _ (c .before .before .before .loop .inv .0) (c .before .before .loop-test .taken))
 
--- src/samples.rt:119:9
 sub-left : tie.Need-sub-left Inv-loop μ-loop
-sub-left c = ?
+sub-left c = search needs
 
--- src/samples.rt:116:5
 loop-less : tie.Need-loop-less Inv-loop μ-loop
-loop-less c = ?
+loop-less c = search needs
 
--- src/samples.rt:116:5
 loop-again : tie.Need-loop-again Inv-loop μ-loop
-loop-again c = ?
+loop-again c = (search room-again, search samples-counted, search needs)
 
--- src/samples.rt:109:1
 returns : tie.Need-returns Inv-loop μ-loop
-returns c = ?
+returns c = search rows-count-end
 
 pub rows-length-spec : {M : Type 1} → statement M
 rows-length-spec =

@@ -1,50 +1,48 @@
+-- `writer::samples::write_rows` meets its contract. The invariant: storing the rows that are left gives what is wanted.
+use borrow.Author.Needs.{needs}
+use mathlib.Core.Path.{_≡_, refl}
+use Prim.Native.Nat.{_+_, _*_, _≤_}
+use native.Mathlib.Omega.{arith}
+use lib.ListN.{length}
+use Rattle.steps.specs.Place.{spread}
+use Rattle.writer.proofs.Laws.Frame.{sampleRows, room-row, room-again, samples-row-fits, samples-placed, samples-kept, rows-count-end, rows-store-end}
 use Rattle.writer.proofs.samples.write_rows.Statement.{statement}
 use Rattle.writer.proofs.samples.write_rows.Tie as tie
-use Rattle.writer.proofs.samples.write_rows.Reads as reads
-use Rattle.writer.proofs.samples.write_rows.Lts as lts
-use Rattle.writer.proofs.samples.write_row.Reads as write-row-reads
 
 abbrev Inv-loop : tie.InvT-loop
-Inv-loop samples width height line₀ out₀ to at₀ left₀ o₀ line out at left o = ?
+Inv-loop samples width height line₀ out₀ to at₀ left₀ o₀ line out at left o =
+    (at + 3 * (width * left) ≤ length samples) × (length out ≡ length out₀) × (o + length (sampleRows samples width at left) ≡ to + length (sampleRows samples width 0 height))
+    × (spread 1 out o (sampleRows samples width at left) ≡ spread 1 out₀ to (sampleRows samples width 0 height))
 
 abbrev μ-loop : tie.MeasureT-loop
-μ-loop samples width height line₀ out₀ to at₀ left₀ o₀ line out at left o = ?
+μ-loop samples width height line₀ out₀ to at₀ left₀ o₀ line out at left o = left
 
--- src/samples.rt:169:5
 loop-holds : tie.Need-loop-holds Inv-loop μ-loop
-loop-holds c = ?
+loop-holds c = (search needs, refl, refl, refl)
 
--- src/samples.rt:170:9
 write-row-requires : tie.Need-write-row-requires Inv-loop μ-loop
-write-row-requires c κs = ?
+write-row-requires c κs = (search room-row, search samples-row-fits)
 
--- src/samples.rt:171:15
 mul-at : tie.Need-mul-at Inv-loop μ-loop
-mul-at c = ?
+mul-at c = omega (arith, room-row 3 _ _ _ _ (c .before .before .before .before .before .before .loop .inv .0) (c .before .before .before .before .before .loop-test .taken))
 
--- src/samples.rt:171:9
 add-at : tie.Need-add-at Inv-loop μ-loop
-add-at c = ?
+add-at c = omega (arith, room-row 3 _ _ _ _ (c .before .before .before .before .before .before .loop .inv .0) (c .before .before .before .before .before .loop-test .taken))
 
--- src/samples.rt:172:9
 sub-left : tie.Need-sub-left Inv-loop μ-loop
-sub-left c = ?
+sub-left c = search needs
 
--- src/samples.rt:169:5
 loop-less : tie.Need-loop-less Inv-loop μ-loop
-loop-less c = ?
+loop-less c = search needs
 
--- src/samples.rt:169:5
 loop-again : tie.Need-loop-again Inv-loop μ-loop
-loop-again c = ?
+loop-again c = (search room-again, search needs, search samples-placed, search samples-kept)
 
--- src/samples.rt:155:1
 same-length : tie.Need-same-length Inv-loop μ-loop
-same-length c = ?
+same-length c = search needs
 
--- src/samples.rt:155:1
 returns : tie.Need-returns Inv-loop μ-loop
-returns c = ?
+returns c = (search rows-count-end, search rows-store-end)
 
 pub write-rows-spec : {M : Type 1} → statement M
 write-rows-spec =
