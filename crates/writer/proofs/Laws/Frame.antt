@@ -188,6 +188,10 @@ spread-front s us h =
     let none : 0 + length us ≡ length us = omega arith in
     spread-sets s 0 us ∙ sets-eq us s 0 (omega arith) ∙ ap (λ (k : ℕ). us ++ drop k s) none
 
+-- a coded row fits the line
+pub coded-room : (w : ℕ) (t : Bool) → t ≡ isCoded w → t ≡ true → 4 * w ≤ 131072
+coded-room w t e k = omega (arith, coded-widths w (sym e ∙ k))
+
 module _ (samples : List Float) (from w : ℕ) where
   line-row : (line line′ : List ℕ) → 4 * w ≤ length line → line′ ≡ spread 1 line 0 (packed samples from w) → rowOf line′ 0 w ≡ rowOf (packed samples from w) 0 w
   line-row line line′ room e =
@@ -200,11 +204,14 @@ module _ (samples : List Float) (from w : ℕ) where
       row-flat p 0 w e ∙ ap (bytesFrom p 0) (sym (length-packed samples from w)) ∙ bytes-there p 0 p [] (sym (append-nil p))
 
   module _ (t : Bool) (e : t ≡ isCoded w) where
-    pub coded-room : t ≡ true → 4 * w ≤ 131072
-    coded-room k = omega (arith, coded-widths w (sym e ∙ k))
-
     pub flat-length : t ≡ false → 4 * w ≡ length (rowOf (packed samples from w) 0 w)
     flat-length k = sym (flat-size (packed samples from w) 0 w (sym e ∙ k))
+
+    pub flat-fits : t ≡ false → (to : ℕ) (out : List ℕ) → to + length (rowOf (packed samples from w) 0 w) ≤ length out → to + 4 * w ≤ length out
+    flat-fits k to out h = omega (arith, flat-length k)
+
+    pub flat-placed : t ≡ false → (to : ℕ) → to + 4 * w ≡ to + length (rowOf (packed samples from w) 0 w)
+    flat-placed k to = omega (arith, flat-length k)
 
     pub flat-stored : t ≡ false → (out out′ : List ℕ) (to : ℕ) → out′ ≡ spread 1 out to (packed samples from w) → out′ ≡ spread 1 out to (rowOf (packed samples from w) 0 w)
     flat-stored k out out′ to s = s ∙ ap (spread 1 out to) (sym (flat-row (sym e ∙ k)))
@@ -212,6 +219,15 @@ module _ (samples : List Float) (from w : ℕ) where
   module _ (line line′ : List ℕ) (room : 4 * w ≤ length line) (e : line′ ≡ spread 1 line 0 (packed samples from w)) where
     pub line-length : (r : ℕ) → r ≡ length (rowOf line′ 0 w) → r ≡ length (rowOf (packed samples from w) 0 w)
     line-length r k = k ∙ ap length (line-row line line′ room e)
+
+    pub line-fits : (to : ℕ) (out : List ℕ) → to + length (rowOf (packed samples from w) 0 w) ≤ length out → to + length (rowOf line′ 0 w) ≤ length out
+    line-fits to out h = omega (arith, ap length (line-row line line′ room e))
+
+    pub line-placed : (to r : ℕ) → r ≡ to + length (rowOf line′ 0 w) → r ≡ to + length (rowOf (packed samples from w) 0 w)
+    line-placed to r k = omega (arith, ap length (line-row line line′ room e))
+
+    pub line-stored : (out out′ : List ℕ) (to : ℕ) → out′ ≡ spread 1 out to (rowOf line′ 0 w) → out′ ≡ spread 1 out to (rowOf (packed samples from w) 0 w)
+    line-stored out out′ to s = s ∙ ap (spread 1 out to) (line-row line line′ room e)
 
 -- ---- The worst length
 
