@@ -14,7 +14,7 @@ use lib.Ieee.{Float}
 use Rattle.steps.specs.Loop.{pick}
 use Rattle.steps.specs.Place.{spread, bytesFrom}
 use Rattle.steps.proofs.Laws.Place.{length-spread, spread-then}
-use Rattle.header.specs.Written.{written, digits}
+use Rattle.header.specs.Written.{written}
 use Rattle.header.proofs.Laws.Written.{written-length, digits-few}
 use Rattle.runs.specs.Row.{isCoded, rowOf, worstRow, worstChannel}
 use Rattle.runs.proofs.Laws.Row.{row-same, row-flat, flat-size, coded-widths}
@@ -220,8 +220,8 @@ module _ (samples : List Float) (from w : ℕ) where
     pub line-length : (r : ℕ) → r ≡ length (rowOf line′ 0 w) → r ≡ length (rowOf (packed samples from w) 0 w)
     line-length r k = k ∙ ap length (line-row line line′ room e)
 
-    pub line-fits : (to : ℕ) (out : List ℕ) → to + length (rowOf (packed samples from w) 0 w) ≤ length out → to + length (rowOf line′ 0 w) ≤ length out
-    line-fits to out h = omega (arith, ap length (line-row line line′ room e))
+    pub line-fits : (to n : ℕ) → to + length (rowOf (packed samples from w) 0 w) ≤ n → to + length (rowOf line′ 0 w) ≤ n
+    line-fits to n h = omega (arith, ap length (line-row line line′ room e))
 
     pub line-placed : (to r : ℕ) → r ≡ to + length (rowOf line′ 0 w) → r ≡ to + length (rowOf (packed samples from w) 0 w)
     line-placed to r k = omega (arith, ap length (line-row line line′ room e))

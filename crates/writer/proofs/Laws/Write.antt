@@ -4,44 +4,22 @@ use mathlib.Core.Bool.{Bool, true, false, not, _||_}
 use mathlib.Core.List.{List, [], _∷_}
 use mathlib.Core.Path.{_≡_, refl, sym, ap, _∙_}
 use native.Mathlib.Omega.{arith}
-use borrow.Author.Tests.{ltb-true, ltb-false, lt-ltb, le-ltb, eq-eqb, ne-eqb, eqb-true, eqb-false, not-false, leb-true, leb-false}
+use borrow.Author.Tests.{ltb-false, lt-ltb, le-ltb, eq-eqb, ne-eqb, eqb-true, not-false, leb-true, leb-false}
 use lib.ListN.{length}
 use lib.Dec.{ltb, eqb, leb}
 use lib.Ieee.{Float}
 use Rattle.steps.specs.Loop.{pick}
 use Rattle.steps.specs.Place.{spread}
-use Rattle.steps.specs.Answer.{Answer, done, refused, refuse, refusalOf, Check, check, checked}
+use Rattle.steps.specs.Answer.{Answer, done, refused, refuse, Check, check, checked}
 use Rattle.steps.specs.Amount.{amountOf}
 use Rattle.steps.specs.declared.amount.Amount.{Amount}
 use Rattle.steps.specs.declared.amount.Amount.the-variants.{Number, None}
-use Rattle.steps.proofs.Laws.Answer.{Passed, pass, passed}
+use Rattle.steps.proofs.Laws.Answer.{Passed, pass}
 use Rattle.steps.proofs.Laws.Amount.{amount-is, amount-passes}
-use Rattle.writer.specs.Samples.{firstBright, FirstBright}
+use Rattle.writer.specs.Samples.{firstBright}
 use Rattle.writer.specs.Frame.{frameOf, worstOf}
-use Rattle.writer.specs.Write.{
-  sizeChecks,
-  frameChecks,
-  failing,
-  brightChecked,
-  Left,
-  stored,
-  fileOf,
-  lengthOf,
-  length4Of,
-  worstAnswer,
-  writeOf,
-  write4Of,
-  paperOf,
-  LengthPromise,
-  Length4Promise,
-  WorstPromise,
-  WritePromise,
-  Write4Promise,
-}
-use Rattle.writer.specs.declared.WriteAnswer.{WriteAnswer}
-use Rattle.writer.specs.declared.WriteAnswer.the-variants.{Done, Refused}
-use Rattle.writer.proofs.Laws.Samples.{first-named, first-only}
-use Rattle.writer.proofs.Laws.Frame.{frame-worst, area-fits, count-of-fits}
+use Rattle.writer.specs.Write.{sizeChecks, frameChecks, failing, brightChecked, stored, fileOf, lengthOf, length4Of, worstAnswer, writeOf, write4Of}
+use Rattle.writer.proofs.Laws.Frame.{area-fits, count-of-fits}
 
 -- ---- The first check that fails, by its number
 
@@ -141,7 +119,7 @@ module _ (w h got each : ℕ) where
   abbrev pub Framed : Type 0
   Framed = Passed (frameChecks w h got each)
 
-  frame-passed : Framed → (w ≤ 65535) × (h ≤ 65535) × (got ≡ each * (w * h))
+  pub frame-passed : Framed → (w ≤ 65535) × (h ≤ 65535) × (got ≡ each * (w * h))
   frame-passed p =
       let sizes = sizes-passed w h (p .0, (p .1 .0, tt)) in
       (sizes .0, sizes .1, eqb-true got (each * (w * h)) (not-false (eqb got (each * (w * h))) (p .1 .1 .0)))
@@ -165,27 +143,27 @@ module _ (w h got each : ℕ) where
 -- ---- Check 12
 
 module _ {A : Type 0} (answer : Answer ℕ → A) (samples : List Float) (n k : ℕ) (rest : A) (e : k ≡ firstBright samples 0 n) where
-  bright-refuses : k < n → answer (refused 12 k) ≡ brightChecked answer samples n rest
+  pub bright-refuses : k < n → answer (refused 12 k) ≡ brightChecked answer samples n rest
   unfolding brightChecked
   bright-refuses h = rw (← e) (simp (lt-ltb k n h))
 
-  bright-passes : n ≤ k → rest ≡ brightChecked answer samples n rest
+  pub bright-passes : n ≤ k → rest ≡ brightChecked answer samples n rest
   unfolding brightChecked
   bright-passes h = rw (← e) (simp (le-ltb k n h))
 
 -- ---- Check 13
 
-stored-fits : (file out out′ : List ℕ) (n : ℕ) → length file ≤ length out → n ≡ length file → out′ ≡ spread 1 out 0 file → (done n, out′) ≡ stored file out
+pub stored-fits : (file out out′ : List ℕ) (n : ℕ) → length file ≤ length out → n ≡ length file → out′ ≡ spread 1 out 0 file → (done n, out′) ≡ stored file out
 unfolding stored
 stored-fits file out out′ n h en eo = rw (en, eo) (simp (le-ltb (length out) (length file) h))
 
-stored-none : (file out : List ℕ) → length out < length file → (refuse 13, out) ≡ stored file out
+pub stored-none : (file out : List ℕ) → length out < length file → (refuse 13, out) ≡ stored file out
 unfolding stored
 stored-none file out h = simp (lt-ltb (length out) (length file) h)
 
--- whether a file fits is told by a Bool
-pub room-told : (file : List ℕ) (room : ℕ) (t : Bool) → t ≡ leb (length file) room → t ≡ true → length file ≤ room
-room-told file room t e k = leb-true (length file) room (sym e ∙ k)
+-- whether a file of n bytes fits is told by a Bool
+pub room-told : (n room : ℕ) (t : Bool) → t ≡ leb n room → t ≡ true → n ≤ room
+room-told n room t e k = leb-true n room (sym e ∙ k)
 
 -- ---- The calls from samples, in the code's order
 
@@ -228,7 +206,7 @@ module _ (w h : ℕ) (samples : List Float) (r : ℕ) (e : r ≡ failing (frameC
 
         pub write-done : (n : ℕ) (out′ : List ℕ) → t ≡ true → n ≡ length (fileOf samples w h) → out′ ≡ spread 1 out 0 (fileOf samples w h) → (done n, out′) ≡ writeOf w h samples out
         write-done n out′ is en eo =
-            stored-fits (fileOf samples w h) out out′ n (room-told (fileOf samples w h) (length out) t et is) en eo
+            stored-fits (fileOf samples w h) out out′ n (room-told (length (fileOf samples w h)) (length out) t et is) en eo
             ∙ bright-passes (λ x. (x, out)) samples (w * h) k _ ek l
             ∙ sym (to-write out)
 
@@ -259,7 +237,7 @@ module _ (w h : ℕ) (px : List ℕ) (r : ℕ) (e : r ≡ failing (frameChecks w
           ap (λ (x : Answer ℕ). (x, out)) ea ∙ stored-none (frameOf px w h) out (leb-false (length (frameOf px w h)) (length out) (sym et ∙ is)) ∙ sym to-write4
 
       pub write4-done : (n : ℕ) (out′ : List ℕ) → t ≡ true → n ≡ length (frameOf px w h) → out′ ≡ spread 1 out 0 (frameOf px w h) → (done n, out′) ≡ write4Of w h px out
-      write4-done n out′ is en eo = stored-fits (frameOf px w h) out out′ n (room-told (frameOf px w h) (length out) t et is) en eo ∙ sym to-write4
+      write4-done n out′ is en eo = stored-fits (frameOf px w h) out out′ n (room-told (length (frameOf px w h)) (length out) t et is) en eo ∙ sym to-write4
 
 -- ---- The crate's guess
 

@@ -29,7 +29,7 @@ fits-requires : tie.Need-fits-requires
 fits-requires c κs = (search frame-wide, search frame-high, search frame-room)
 
 write-frame-requires : tie.Need-write-frame-requires
-write-frame-requires c κs = (search frame-room, search room-told)
+write-frame-requires c κs = (search frame-room, room-told _ _ _ (c .before .before .before .fits2 .ensures) (c .before .before .if3 .taken))
 
 same-length : tie.Need-same-length
 same-length c = search needs

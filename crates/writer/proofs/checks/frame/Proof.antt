@@ -1,6 +1,5 @@
 -- `writer::checks::frame` meets its contract: the checks of the sizes, and then that of the count.
 use borrow.Author.Needs.{needs}
-use native.Mathlib.Omega.{arith}
 use Rattle.writer.proofs.Laws.Write.{sizes-area, sizes-count, frame-sizes, frame-wrong, frame-good}
 use Rattle.writer.proofs.checks.frame.Statement.{statement}
 use Rattle.writer.proofs.checks.frame.Tie as tie

@@ -1,5 +1,4 @@
 -- `writer::checks::sizes` meets its contract: each `return` is a check, or none fails.
-use borrow.Author.Needs.{needs}
 use Rattle.writer.proofs.Laws.Write.{sizes-no-width, sizes-over-w, sizes-over-h, sizes-good}
 use Rattle.writer.proofs.checks.sizes.Statement.{statement}
 use Rattle.writer.proofs.checks.sizes.Tie as tie

@@ -16,9 +16,10 @@ pack-row-requires c κs = (search needs, omega (arith, coded-room (c .before .be
 write-row-requires : tie.Need-write-row-requires
 write-row-requires c κs =
     let packs = c .before .before .before in
-    let args = packs .before .before .before .before .before .before .args in
+    let start = packs .before .before .before .before .before .before in
+    let args = start .args in
     let room : 4 * args .width ≤ length (args .line .now) = omega (arith, coded-room (args .width) _ (packs .before .before .before .is-coded .ensures) (packs .before .before .if1 .taken)) in
-    (omega arith, line-fits _ _ _ _ _ room (packs .pack-row .ensures) _ _ (search needs))
+    (omega arith, line-fits _ _ _ _ _ room (packs .pack-row .ensures) _ _ (start .pre .1))
 
 same-length : tie.Need-same-length
 same-length c = search needs
