@@ -58,7 +58,7 @@ module _ (px : List ℕ) (w : ℕ) where
   rows-none at (suc n) h = absurd (not-suc-le-zero h)
 
 -- what stands after a front is written as if it stood alone
-rows-after : (p q : List ℕ) (at w h : ℕ) → rowsOf (p ++ q) (length p + at) w h ≡ rowsOf q at w h
+pub rows-after : (p q : List ℕ) (at w h : ℕ) → rowsOf (p ++ q) (length p + at) w h ≡ rowsOf q at w h
 unfolding rowsOf
 rows-after p q at w zero = refl
 rows-after p q at w (suc h) =
@@ -251,7 +251,7 @@ unfolding rowsOf
 rows-worst px at w zero = omega arith
 rows-worst px at w (suc h) = omega (arith, length-append (rowOf px at w) (rowsOf px (at + 4 * w) w h), row-worst px at w, rows-worst px (at + 4 * w) w h)
 
-frame-size : (px : List ℕ) (w h : ℕ) → length (frameOf px w h) ≡ length (written w h) + length (rowsOf px 0 w h)
+pub frame-size : (px : List ℕ) (w h : ℕ) → length (frameOf px w h) ≡ length (written w h) + length (rowsOf px 0 w h)
 unfolding frameOf
 frame-size px w h = length-append (written w h) (rowsOf px 0 w h)
 
