@@ -16,7 +16,8 @@ use Rattle.runs.specs.Row.{isCoded, rowOf, worstRow}
 use Rattle.runs.proofs.Laws.Worst.{pixels, row-reached}
 use Rattle.writer.specs.Frame.{rowsOf, frameOf, worstOf}
 use Rattle.writer.specs.Write.{stored}
-use Rattle.writer.proofs.Laws.Frame.{rows-after, frame-size, frame-worst}
+use Rattle.writer.proofs.Laws.Rows.{rows-after}
+use Rattle.writer.proofs.Laws.Frame.{frame-size, frame-worst}
 use Rattle.writer.proofs.Laws.Write.{stored-fits}
 
 -- ---- By the papers
