@@ -9,14 +9,15 @@ use lib.ListN.{length, drop}
 use lib.Dec.{ltb}
 use lib.Ieee.{Float}
 use Rattle.steps.specs.Answer.{Answer, done, refused, refuse, Check, check, checked}
+use Rattle.steps.specs.declared.amount.Amount.{Amount}
 use Rattle.steps.proofs.Laws.Answer.{Passed, pass}
 use Rattle.writer.specs.Samples.{firstBright, FirstBright}
 use Rattle.writer.specs.Frame.{frameOf}
-use Rattle.writer.specs.Write.{frameChecks, brightChecked, Left, stored, fileOf, lengthOf, length4Of, writeOf, write4Of, paperOf, LengthPromise, Length4Promise, WorstPromise, WritePromise, Write4Promise}
+use Rattle.writer.specs.Write.{frameChecks, brightChecked, Left, stored, fileOf, lengthOf, length4Of, writeOf, write4Of, paperOf, LengthPromise, Length4Promise, WorstPromise, WritePromise, Write4Promise, ExpectedPromise}
 use Rattle.writer.specs.declared.WriteAnswer.{WriteAnswer}
 use Rattle.writer.specs.declared.WriteAnswer.the-variants.{Done, Refused}
 use Rattle.writer.proofs.Laws.Samples.{first-named, first-only}
-use Rattle.writer.proofs.Laws.Frame.{spread-front}
+use Rattle.writer.proofs.Laws.Line.{spread-front}
 use Rattle.writer.proofs.Laws.Write.{bright-refuses, bright-passes, stored-fits, stored-none}
 
 -- ---- Inversions: what is answered comes from the checks, from check 12, or from the rest
@@ -152,6 +153,9 @@ by-paper (Refused r) (Refused s) e =
 
 both-once : (a b : WriteAnswer) (o o′ : List ℕ) → _≡_ {A = Left} (paperOf a, o) (paperOf b, o′) → (a ≡ b) × (o ≡ o′)
 both-once a b o o′ e = (by-paper a b (ap (λ (z : Left). z .0) e), ap (λ (z : Left). z .1) e)
+
+pub expected-once : (w h : ℕ) (a b : Amount) → ExpectedPromise w h a → ExpectedPromise w h b → a ≡ b
+expected-once w h a b p q = p ∙ sym q
 
 module _ (w h : ℕ) (a b : WriteAnswer) where
   pub length-once : (samples : List Float) → LengthPromise w h samples a → LengthPromise w h samples b → a ≡ b
