@@ -1,3 +1,5 @@
 -- The theorems over the definitions in `specs/`, a file for each of its files.
+pub mod Longest
+pub mod Reached
 pub mod Numbered
 pub mod Skies
