@@ -9,7 +9,7 @@ ghost use Rattle.steps.specs.Place.{spread};
 ghost use Rattle.runs.specs.Row.{isCoded, mark, codedRow, rowOf, Stored};
 
 // Whether rows of w pixels are coded.
-fn is_coded(w: usize) -> bool
+pub fn is_coded(w: usize) -> bool
     ensures { λ r. ⌜ r ≡ isCoded w ⌝ }
 {
     8 <= w && w <= 32767
