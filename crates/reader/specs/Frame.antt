@@ -1,5 +1,6 @@
 -- The rows of a frame, one after another, by a rule for one row and a rule for one pixel.
 use Prim.Native.Nat.{ℕ, _+_, _*_}
+use mathlib.Core.Bool.{Bool, true, false}
 use mathlib.Core.List.{List}
 use lib.ListN.{replicate}
 use lib.Dec.{ltb}
@@ -52,3 +53,8 @@ noRows x = (done (x .at), x .out, x .store)
 -- the rows from a place of the input on; each turn but the last is a row
 unfoldable pub rowsOf : RowRule → SampleRule → List ℕ → ℕ → ℕ → ℕ → List Float → List ℕ → Left
 rowsOf rowRule rule bytes width height at out store = run (rowTurn rowRule rule bytes width height) noRows (height + 1) (rows at 0 store out)
+
+-- the bytes end too early
+abbrev pub endsEarly : Answer ℕ → Bool
+endsEarly (done at) = false
+endsEarly (refused number row) = true

@@ -1,4 +1,4 @@
--- The laws of the definitions in `specs/`: places, a channel, its cut, a row, the scan, the stores, the worst row, the samples, and that
+-- The laws of the definitions in `specs/`: a channel, its cut, a row, the scan, the stores, the worst row, the samples, and that
 -- the reader reads back what is written.
 pub mod Channel
 pub mod Cut

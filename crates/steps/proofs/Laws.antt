@@ -3,4 +3,5 @@ pub mod Loop
 pub mod Place
 pub mod Turns
 pub mod Answer
+pub mod Numbered
 pub mod Amount

@@ -2,4 +2,5 @@
 pub mod Loop
 pub mod Place
 pub mod Answer
+pub mod Numbered
 pub mod Amount

@@ -1,15 +1,19 @@
 -- The laws that proofs use of `specs/Read.antt`.
 use Prim.Native.Nat.{ℕ, _+_, _-_, _*_, _<_, _≤_}
-use mathlib.Core.Path.{_≡_, sym, ap, _∙_}
+use mathlib.Core.Path.{_≡_, refl, sym, ap, _∙_}
 use native.Mathlib.Omega.{arith}
 use borrow.Author.Tests.{lt-ltb, le-ltb, eq-eqb, ne-eqb}
 use mathlib.Core.List.{List}
 use lib.ListN.{length}
+use lib.Dec.{ltb}
 use lib.Ieee.{Float}
 use Rattle.steps.specs.Place.{spread}
 use Rattle.steps.specs.Answer.{Answer, done, refused, refuse, refusalOf, checked}
 use Rattle.steps.specs.Amount.{amountOf}
+use Rattle.steps.specs.Loop.{pick}
+use Rattle.steps.specs.Numbered.{numberOf}
 use Rattle.steps.proofs.Laws.Loop.{Runs}
+use Rattle.steps.proofs.Laws.Turns.{by-test, Leads, run-keeps}
 use Rattle.steps.specs.declared.refusal.Refusal.{Refusal}
 use Rattle.steps.proofs.Laws.Answer.{passed, pass, failed, checked-append}
 use Rattle.header.specs.Head as header
@@ -22,7 +26,7 @@ use Rattle.rows.specs.Row.{rowOf}
 use Rattle.rows.specs.declared.Taken.{Taken}
 use Rattle.rows.specs.declared.Taken.the-variants.{Done, Short}
 use Rattle.reader.specs.Samples.{samplesFrom}
-use Rattle.reader.specs.Frame.{Left, cleared, rows, rowTurn, noRows, rowsOf}
+use Rattle.reader.specs.Frame.{Left, Rows, cleared, rows, afterRow, rowTurn, noRows, rowsOf, endsEarly}
 use Rattle.reader.specs.Read.{crateRow, cratePixel, outcomeOf, taking, framed, readBy, frameAnswer, paperOf, ReadPromise}
 use Rattle.reader.specs.declared.ReadAnswer.{ReadAnswer}
 use Rattle.reader.specs.declared.ReadAnswer.the-variants as read
@@ -49,6 +53,23 @@ module _ (bytes : List ℕ) (head : Head) (p row : ℕ) (store : List ℕ) (out 
     pub frame-again : (at n o : ℕ) (out′ : List Float) → t ≡ Done at → n ≡ 3 * head .width → o ≡ row * n → out′ ≡ spread 1 out o (samplesFrom cratePixel store′ 0 (head .width))
         → Runs (rowTurn crateRow cratePixel bytes (head .width) (head .height)) noRows (head .height - (row + 1)) (rows at (row + 1) store′ out′) a
     frame-again at n o out′ k en eo es = rows-again crateRow cratePixel bytes (head .width) (head .height) p row store out a r h (outcomeOf t) store′ by-crate at n o out′ (ap outcomeOf k) en eo es
+
+-- the crate's rows are refused by 9 alone, where the bytes end too early
+pub rows-number : (bytes : List ℕ) (width height at : ℕ) (out : List Float) (store : List ℕ)
+    → let left = rowsOf crateRow cratePixel bytes width height at out store in numberOf (left .0) ≡ pick (endsEarly (left .0)) 9 0
+unfolding rowsOf rowTurn crateRow
+rows-number bytes width height at out store =
+    run-keeps (rowTurn crateRow cratePixel bytes width height) noRows (λ x. Unit {0}) Nine (λ x u. step x) (λ x u. refl) (height + 1) (rows at 0 store out) tt
+  where
+    Nine : Left → Type 0
+    Nine left = numberOf (left .0) ≡ pick (endsEarly (left .0)) 9 0
+
+    after : (x : Rows) (t : Taken) (s : List ℕ) → Leads (λ (y : Rows). Unit {0}) Nine (afterRow cratePixel width (x .row) (x .out) (outcomeOf t) s)
+    after x (Done next) s = tt
+    after x Short s = refl
+
+    step : (x : Rows) → Leads (λ (y : Rows). Unit {0}) Nine (rowTurn crateRow cratePixel bytes width height x)
+    step x = by-test (Leads (λ (y : Rows). Unit {0}) Nine) (ltb (x .row) height) (λ t. after x (rowOf bytes (x .at) (x .store) width .0) (rowOf bytes (x .at) (x .store) width .1)) (λ t. refl)
 
 -- ---- How many samples a frame has
 

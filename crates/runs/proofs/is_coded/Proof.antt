@@ -6,11 +6,11 @@ use Rattle.runs.proofs.is_coded.Tie as tie
 
 returns : tie.Need-returns
 unfolding isCoded
-returns c = simp (le-leb _ _ (c .if1 .taken))
+returns c = simp (le-leb 8 _ (c .if1 .taken))
 
 returns-2 : tie.Need-returns-2
 unfolding isCoded
-returns-2 c = simp (lt-leb _ _ (c .if1 .left))
+returns-2 c = simp (lt-leb 8 _ (c .if1 .left))
 
 pub is-coded-spec : {M : Type 1} → statement M
 is-coded-spec = tie.close (tie.spec returns returns-2)

@@ -1,0 +1,337 @@
+"""Our files read by OpenCV, OpenImageIO and vips, theirs read by us, and their row coders beside ours."""
+
+import math
+import os
+import subprocess
+import sys
+import tempfile
+
+import cv2
+import numpy
+import OpenImageIO
+
+SEED = int(sys.argv[1])
+REPLAY = sys.argv[2:]
+BLACK = float(numpy.float32(1e-32))
+
+
+def ask(lines):
+    """The replay program's answers, each split into its fields."""
+    done = subprocess.run(REPLAY, input="".join(line + "\n" for line in lines).encode(), stdout=subprocess.PIPE, check=True)
+    answers = [line.split(" ") for line in done.stdout.decode().splitlines()]
+    assert len(answers) == len(lines), "an answer is missing"
+    return answers
+
+
+def numbers(data):
+    return numpy.frombuffer(data, numpy.uint8)
+
+
+def hexadecimal(data):
+    return data.hex() or "-"
+
+
+# ---- the documents' pixel, and reading a file by the documents
+
+
+def four_bytes(samples):
+    """Three samples to four bytes, as document 01 has it; Python's numbers are wide enough to be exact."""
+    largest = max(samples)
+    if not largest > BLACK:
+        return bytes(4)
+    e = math.frexp(largest)[1]
+    return bytes([max(0, math.floor(math.ldexp(s, 8 - e))) for s in samples] + [e + 128])
+
+
+def pixels_of(frame):
+    """The four-byte pixels of a frame, row by row."""
+    return b"".join(four_bytes([float(s) for s in pixel]) for row in frame for pixel in row)
+
+
+def lower_edge(pixels, shape):
+    """m * 2^(E-136), and 0 where E is 0."""
+    quads = numbers(pixels).reshape(shape[0], shape[1], 4)
+    scale = numpy.ldexp(1.0, quads[:, :, 3:].astype(int) - 136) * (quads[:, :, 3:] > 0)
+    return quads[:, :, :3] * scale
+
+
+def middle(pixels, shape):
+    """(2m + 1) * 2^(E-137), and 0 where E is 0."""
+    quads = numbers(pixels).reshape(shape[0], shape[1], 4)
+    scale = numpy.ldexp(1.0, quads[:, :, 3:].astype(int) - 137) * (quads[:, :, 3:] > 0)
+    return (2.0 * quads[:, :, :3] + 1) * scale
+
+
+def split_file(data, width, height):
+    """The rows' bytes of a file, behind its header."""
+    sizes = b"-Y %d +X %d\n" % (height, width)
+    place = data.index(b"\n\n" + sizes)
+    return data[place + 2 + len(sizes):]
+
+
+def decode(rows, width, height):
+    """The four-byte pixels of rows, by the documents; no old runs."""
+    place, out = 0, bytearray()
+    for _ in range(height):
+        if rows[place:place + 4] != bytes([2, 2, width >> 8, width & 255]) or not 8 <= width <= 32767:
+            out += rows[place:place + 4 * width]
+            place += 4 * width
+            continue
+        place += 4
+        channels = []
+        for _ in range(4):
+            channel = bytearray()
+            while len(channel) < width:
+                count = rows[place]
+                if count > 128:
+                    channel += bytes([rows[place + 1]]) * (count - 128)
+                    place += 2
+                else:
+                    channel += rows[place + 1:place + 1 + count]
+                    place += 1 + count
+            assert len(channel) == width, "a channel passes the row's end"
+            channels.append(bytes(channel))
+        out += bytes(b for quad in zip(*channels) for b in quad)
+    assert place == len(rows), "bytes behind the last row"
+    return bytes(out)
+
+
+# ---- the programs
+
+
+class OpenCV:
+    name = "OpenCV " + cv2.__version__
+    predicted = staticmethod(lower_edge)
+    edge = "lower edge"
+
+    @staticmethod
+    def read(path):
+        return cv2.imread(path, cv2.IMREAD_UNCHANGED)[:, :, ::-1]
+
+    @staticmethod
+    def write(path, frame):
+        assert cv2.imwrite(path, numpy.ascontiguousarray(frame[:, :, ::-1]))
+
+
+class OpenImageIO_:
+    name = "OpenImageIO " + OpenImageIO.VERSION_STRING
+    predicted = staticmethod(lower_edge)
+    edge = "lower edge"
+
+    @staticmethod
+    def read(path):
+        file = OpenImageIO.ImageInput.open(path)
+        frame = file.read_image("float")
+        file.close()
+        return frame
+
+    @staticmethod
+    def write(path, frame):
+        file = OpenImageIO.ImageOutput.create(path)
+        height, width, _ = frame.shape
+        assert file.open(path, OpenImageIO.ImageSpec(width, height, 3, "float"))
+        assert file.write_image(numpy.ascontiguousarray(frame))
+        file.close()
+
+
+class Vips:
+    name = subprocess.run(["vips", "--version"], stdout=subprocess.PIPE, check=True).stdout.decode().split()[0]
+    predicted = staticmethod(middle)
+    edge = "middle"
+
+    @staticmethod
+    def read(path):
+        run = lambda *words: subprocess.run(["vips", *words], check=True)
+        run("rad2float", path, path + ".v")
+        run("rawsave", path + ".v", path + ".raw")
+        sizes = [int(subprocess.run(["vipsheader", "-f", f, path], stdout=subprocess.PIPE, check=True).stdout) for f in ("height", "width")]
+        return numpy.fromfile(path + ".raw", "=f4").reshape(*sizes, 3)
+
+    @staticmethod
+    def write(path, frame):
+        height, width, _ = frame.shape
+        frame.astype("=f4").tofile(path + ".raw")
+        run = lambda *words: subprocess.run(["vips", *words], check=True)
+        run("rawload", path + ".raw", path + ".v", str(width), str(height), "3", "--format", "float", "--interpretation", "scrgb")
+        run("float2rad", path + ".v", path + ".w.v")
+        run("radsave", path + ".w.v", path)
+
+
+PROGRAMS = [OpenCV, OpenImageIO_, Vips]
+
+
+# ---- frames
+
+
+def frame_of(random, width, height, low, high):
+    """A frame whose largest samples run from 2^low to below 2^high, in noise, ramps and runs."""
+    brightness = numpy.exp2(random.uniform(low, high - 0.001, (height, width, 1)))
+    if random.random() < 0.5:
+        brightness = brightness[:, (numpy.arange(width) // random.integers(1, 200)) % width]
+    frame = brightness * random.uniform(0, 1, (height, width, 3))
+    frame[:, :, random.integers(3)] = brightness[:, :, 0]
+    frame[random.uniform(0, 1, (height, width)) < 0.05] = 0
+    if random.random() < 0.5:
+        frame = frame[:, (numpy.arange(width) // 9) * 9]
+    return frame.astype(numpy.float32)
+
+
+WIDTHS = [1, 2, 7, 8, 9, 100, 127, 128, 129, 130, 255, 256, 257, 600]
+
+
+def frames(random, low, high):
+    """Frames of every width in the list, and one on each side of 32,767."""
+    made = [frame_of(random, width, int(random.integers(1, 6)), low, high) for width in WIDTHS]
+    return made + [frame_of(random, width, 1, low, high) for width in (32767, 32768)]
+
+
+class Row:
+    """One row of the table."""
+
+    def __init__(self, *words):
+        self.words, self.frames, self.values, self.near, self.differences = words, 0, 0, 0, 0
+
+    def add(self, found, expected, inexact=None):
+        """Counts values that differ; where the program's own factor is inexact, one that is next to the expected is near."""
+        found, expected = numpy.asarray(found).reshape(-1), numpy.asarray(expected).reshape(-1)
+        self.frames += 1
+        self.values += len(expected)
+        if len(found) != len(expected):
+            self.differences += len(expected)
+            return
+        differ = found != expected
+        if inexact is not None:
+            near = differ & inexact.reshape(-1) & (abs(found - expected) <= expected * 2.0**-23)
+            self.near += int(near.sum())
+            differ &= ~near
+        self.differences += int(differ.sum())
+
+    def __str__(self):
+        numbers = [self.frames, self.values, self.near, self.differences]
+        return "| " + " | ".join([*self.words, *map(str, numbers)]) + " |"
+
+
+def progress(words):
+    print("outside: " + words, file=sys.stderr, flush=True)
+
+
+def inexact_factors(folder):
+    """For each program the exponent bytes whose factor it has not as a power of two, found on one flat row of ours."""
+    pixels = b"".join(bytes([128, 128, 128, e]) for e in range(256))
+    length, data = ask([f"write4 256 1 2000 {pixels.hex()}"])[0][2:]
+    path = os.path.join(folder, "factors.hdr")
+    with open(path, "wb") as file:
+        file.write(bytes.fromhex(data)[:int(length)])
+    found = []
+    for program in PROGRAMS:
+        differ = (program.read(path) != program.predicted(pixels, (1, 256)))[0, :, 0]
+        found.append(numpy.flatnonzero(differ))
+    return found
+
+
+def ours_read_by_them(random, folder):
+    """Files that we write, read by each program."""
+    made = frames(random, -100, 127) + frames(random, -8, 8)
+    lines = []
+    for frame in made:
+        height, width, _ = frame.shape
+        room = 80 + height * (4 + 4 * (width + width // 128 + 1))
+        lines.append(f"write {width} {height} {room} " + hexadecimal(frame.astype(">f4").tobytes()))
+    answers = ask(lines)
+    rows = [Row("ours", program.name, program.edge) for program in PROGRAMS]
+    inexact = inexact_factors(folder)
+    bytes_row = Row("ours", "the documents", "four-byte pixels")
+    for number, (frame, answer) in enumerate(zip(made, answers)):
+        height, width, _ = frame.shape
+        assert answer[:2] == ["0", "0"], f"no file: {answer[0]}"
+        data = bytes.fromhex(answer[3])[:int(answer[2])]
+        pixels = pixels_of(frame)
+        bytes_row.add(numbers(decode(split_file(data, width, height), width, height)), numbers(pixels))
+        path = os.path.join(folder, f"ours{number}.hdr")
+        with open(path, "wb") as file:
+            file.write(data)
+        for row, program, exponents in zip(rows, PROGRAMS, inexact):
+            at = numpy.isin(numbers(pixels)[3::4], exponents).repeat(3)
+            row.add(program.read(path).astype(float), program.predicted(pixels, frame.shape), at)
+    notes = [f"{program.name}: factors that are no power of two at exponent bytes {list(map(int, exponents))}" for program, exponents in zip(PROGRAMS, inexact) if len(exponents)]
+    return [bytes_row, *rows], notes
+
+
+def theirs_read_by_us(random, folder):
+    """Files that each program writes, read by us: within demand 3's range, so the reading is the lower edge."""
+    table = []
+    for program in PROGRAMS:
+        row = Row(program.name, "ours", "lower edge, whole file taken")
+        lines, expected = [], []
+        for number, frame in enumerate(frames(random, -31, 31)):
+            height, width, _ = frame.shape
+            path = os.path.join(folder, f"theirs{number}.hdr")
+            program.write(path, frame)
+            with open(path, "rb") as file:
+                data = file.read()
+            pixels = decode(split_file(data, width, height), width, height)
+            lines.append(f"read 65535 65535 {3 * width * height} {4 * width} " + hexadecimal(data))
+            expected.append((["0", "0", str(width), str(height), str(len(data))], lower_edge(pixels, frame.shape)))
+        for answer, (words, values) in zip(ask(lines), expected):
+            found = numpy.frombuffer(bytes.fromhex(answer[5]), ">f4") if answer[:5] == words else []
+            row.add(found, values)
+        table.append(row)
+    return table
+
+
+def coded_row(random, width):
+    """A row whose four channels have runs of their own."""
+    quads = numpy.zeros((1, width, 4), int)
+    for channel, (low, high) in enumerate([(128, 256), (0, 256), (0, 256), (100, 156)]):
+        letters = int(random.choice([2, 3, 20, high - low]))
+        lengths = [[1], [1, 1, 1, 2, 3, 4], [1, 2, 3, 4, 5, 9], [1, 2, 3, 126, 127, 128, 129, 255]][random.integers(4)]
+        place = 0
+        while place < width:
+            count = int(random.choice(lengths))
+            quads[0, place:place + count, channel] = low + random.integers(min(letters, high - low))
+            place += count
+    return ((2 * quads[:, :, :3] + 1) * numpy.ldexp(1.0, quads[:, :, 3:] - 137)).astype(numpy.float32)
+
+
+def row_coders(random, folder, count):
+    """Random rows written by each program and by us from the same four-byte pixels."""
+    table = []
+    path = os.path.join(folder, "row.hdr")
+    for program in PROGRAMS[:2]:
+        row = Row(program.name, "ours", "the row coder's bytes")
+        lines, expected = [], []
+        for number in range(count):
+            width = int(random.choice(WIDTHS)) if number % 2 else int(random.integers(8, 400))
+            frame = coded_row(random, width)
+            program.write(path, frame)
+            with open(path, "rb") as file:
+                rows = split_file(file.read(), width, 1)
+            lines.append(f"write4 {width} 1 {len(rows) + 80} " + hexadecimal(decode(rows, width, 1)))
+            expected.append((width, rows))
+        for answer, (width, rows) in zip(ask(lines), expected):
+            found = split_file(bytes.fromhex(answer[3])[:int(answer[2])], width, 1) if answer[0] == "0" else b""
+            row.add(numbers(found), numbers(rows))
+        table.append(row)
+    return table
+
+
+def main():
+    random = numpy.random.default_rng(SEED)
+    with tempfile.TemporaryDirectory() as folder:
+        progress("files that we write, read by others")
+        table, notes = ours_read_by_them(random, folder)
+        progress("files that others write, read by us")
+        table += theirs_read_by_us(random, folder)
+        progress("row coders")
+        table += row_coders(random, folder, 1000)
+    print(f"seed {SEED}\n")
+    print("| written by | read by or held to | as | frames | values | one unit off | differences |")
+    print("|---|---|---|---|---|---|---|")
+    for row in table:
+        print(row)
+    for note in notes:
+        print("\n" + note)
+    sys.exit(1 if any(row.differences for row in table) else 0)
+
+
+main()
