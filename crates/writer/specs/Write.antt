@@ -1,5 +1,5 @@
 -- What each call of the writer answers, and what it leaves in the output.
-use Prim.Native.Nat.{ℕ, _*_}
+use Prim.Native.Nat.{ℕ, _+_, _*_}
 use mathlib.Core.Bool.{not, _||_}
 use mathlib.Core.List.{List, [], _∷_, _++_}
 use mathlib.Core.Path.{_≡_}
@@ -8,6 +8,8 @@ use lib.Dec.{ltb, eqb}
 use lib.Ieee.{Float}
 use Rattle.steps.specs.Loop.{pick}
 use Rattle.steps.specs.Place.{spread}
+use Rattle.steps.specs.Amount.{amountOf}
+use Rattle.steps.specs.declared.amount.Amount.{Amount}
 use Rattle.steps.specs.Answer.{Answer, done, refused, refuse, refusalOf, Check, check, checked}
 use Rattle.writer.specs.Samples.{packed, firstBright}
 use Rattle.writer.specs.Frame.{frameOf, worstOf}
@@ -97,3 +99,7 @@ WritePromise w h samples out answer out′ = (paperOf answer, out′) ≡ writeO
 -- `writer::write4`
 abbrev pub Write4Promise : ℕ → ℕ → List ℕ → List ℕ → WriteAnswer → List ℕ → Type 0
 Write4Promise w h px out answer out′ = (paperOf answer, out′) ≡ write4Of w h px out
+
+-- `writer::expected_buffer_size`: its formula, and "none" where that passes 2^64 - 1
+abbrev pub ExpectedPromise : ℕ → ℕ → Amount → Type 0
+ExpectedPromise w h answer = answer ≡ amountOf (w * h * 4 + 1024)

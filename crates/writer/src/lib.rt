@@ -8,9 +8,7 @@ use steps::amount::Amount;
 use steps::refusal;
 use steps::refusal::Refusal;
 ghost use mathlib.Core.Path.{_≡_};
-ghost use Prim.Native.Nat.{_+_, _*_};
 ghost use Rattle.steps.specs.Answer.{refuse, refused};
-ghost use Rattle.steps.specs.Amount.{amountOf};
 ghost use Rattle.writer.specs.Write.{
   paperOf,
   LengthPromise,
@@ -18,6 +16,7 @@ ghost use Rattle.writer.specs.Write.{
   WorstPromise,
   WritePromise,
   Write4Promise,
+  ExpectedPromise,
 };
 
 // What a call of the writer answers: the length of the file, or a refusal.
@@ -114,9 +113,9 @@ pub fn write4(width: usize, height: usize, px: &[u8], out: &mut [u8]) -> WriteAn
     refused(refusal::NO_ROOM)
 }
 
-// The crate's guess at the length of a file.
+// The Rust's formula for the length of a file, which some files pass.
 pub fn expected_buffer_size(width: usize, height: usize) -> Amount
-    ensures { λ r. ⌜ r ≡ amountOf (width * height * 4 + 1024) ⌝ }
+    ensures { λ r. ⌜ ExpectedPromise width height r ⌝ }
 {
     let area = amount::product(width, height);
     let Amount::Number(pixels) = area else {

@@ -16,18 +16,19 @@ use Rattle.runs.specs.Row.{isCoded, rowOf, worstRow}
 use Rattle.runs.proofs.Laws.Worst.{pixels, row-reached}
 use Rattle.writer.specs.Frame.{rowsOf, frameOf, worstOf}
 use Rattle.writer.specs.Write.{stored}
-use Rattle.writer.proofs.Laws.Frame.{rows-after, frame-size, frame-worst}
+use Rattle.writer.proofs.Laws.Rows.{rows-after}
+use Rattle.writer.proofs.Laws.Frame.{frame-size, frame-worst}
 use Rattle.writer.proofs.Laws.Write.{stored-fits}
 
 -- ---- By the papers
 
 -- "H + 4wh at widths 1 to 7 and over 32,767"
 pub worst-flat-frame : (w h : ℕ) → (w ≤ 7) ⊎ (32767 < w) → worstOf w h ≡ length (written w h) + 4 * (w * h)
-unfolding worstOf
+unfolding worstOf worstRow isCoded
 worst-flat-frame w h k =
     let flat : isCoded w ≡ false = ⊎-elim (λ l. simp (lt-leb 8 w (omega arith))) (λ l. simp (lt-leb w 32767 l) (no (leb 8 w))) k in
     let area : h * (4 * w) ≡ 4 * (w * h) = mul-comm h (4 * w) ∙ mul-assoc 4 w h in
-    rw flat (ap (λ (n : ℕ). length (written w h) + n) area)
+    simp flat (ap (λ (n : ℕ). length (written w h) + n) area)
   where
     no : (b : Bool) → b && false ≡ false
     no true = refl
@@ -35,7 +36,7 @@ worst-flat-frame w h k =
 
 -- "and H + h(4 + 4(w + w/128 rounded up)) at 8 to 32,767"
 pub worst-coded-frame : (w h : ℕ) → 8 ≤ w → w ≤ 32767 → worstOf w h ≡ length (written w h) + h * (4 + 4 * (w + (w + 127) / 128))
-unfolding worstOf
+unfolding worstOf worstRow isCoded
 worst-coded-frame w h l g = simp (le-leb 8 w l, le-leb w 32767 g)
 
 -- ---- It is reached

@@ -5,7 +5,8 @@ use Prim.Native.Nat.{_+_, _*_, _^_, _≤_}
 use native.Mathlib.Omega.{arith}
 use lib.ListN.{length}
 use Rattle.writer.specs.Frame.{rowsOf}
-use Rattle.writer.proofs.Laws.Frame.{room-row, room-again, rows-fit, rows-counted, rows-count-fits, rows-count-end}
+use Rattle.writer.proofs.Laws.Rows.{room-row, room-again, rows-counted, rows-count-fits, rows-count-end}
+use Rattle.writer.proofs.Laws.Frame.{rows-fit}
 use Rattle.writer.proofs.frame.rows_length.Statement.{statement}
 use Rattle.writer.proofs.frame.rows_length.Tie as tie
 

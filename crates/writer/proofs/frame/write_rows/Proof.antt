@@ -6,7 +6,7 @@ use native.Mathlib.Omega.{arith}
 use lib.ListN.{length}
 use Rattle.steps.specs.Place.{spread}
 use Rattle.writer.specs.Frame.{rowsOf}
-use Rattle.writer.proofs.Laws.Frame.{room-row, room-again, rows-row-fits, rows-placed, rows-kept, rows-count-end, rows-store-end}
+use Rattle.writer.proofs.Laws.Rows.{room-row, room-again, rows-row-fits, rows-placed, rows-kept, rows-count-end, rows-store-end}
 use Rattle.writer.proofs.frame.write_rows.Statement.{statement}
 use Rattle.writer.proofs.frame.write_rows.Tie as tie
 

@@ -3,7 +3,7 @@ use borrow.Author.Needs.{needs}
 use Prim.Native.Nat.{_*_, _≤_}
 use native.Mathlib.Omega.{arith}
 use lib.ListN.{length}
-use Rattle.writer.proofs.Laws.Frame.{coded-room, line-length, flat-length}
+use Rattle.writer.proofs.Laws.Line.{coded-room, line-length, flat-length}
 use Rattle.writer.proofs.samples.row_length.Statement.{statement}
 use Rattle.writer.proofs.samples.row_length.Tie as tie
 

@@ -4,7 +4,8 @@ use mathlib.Core.Path.{_≡_}
 use Prim.Native.Nat.{_+_, _*_, _^_, _≤_}
 use native.Mathlib.Omega.{arith}
 use lib.ListN.{length}
-use Rattle.writer.proofs.Laws.Frame.{sampleRows, room-row, room-again, rows-fit, samples-counted, samples-count-fits, rows-count-end}
+use Rattle.writer.proofs.Laws.Rows.{sampleRows, room-row, room-again, samples-counted, samples-count-fits, rows-count-end}
+use Rattle.writer.proofs.Laws.Frame.{rows-fit}
 use Rattle.writer.proofs.samples.rows_length.Statement.{statement}
 use Rattle.writer.proofs.samples.rows_length.Tie as tie
 

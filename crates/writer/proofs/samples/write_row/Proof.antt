@@ -3,7 +3,7 @@ use borrow.Author.Needs.{needs}
 use Prim.Native.Nat.{_*_, _≤_}
 use native.Mathlib.Omega.{arith}
 use lib.ListN.{length}
-use Rattle.writer.proofs.Laws.Frame.{coded-room, flat-fits, flat-placed, flat-stored, line-fits, line-placed, line-stored}
+use Rattle.writer.proofs.Laws.Line.{coded-room, flat-fits, flat-placed, flat-stored, line-fits, line-placed, line-stored}
 use Rattle.writer.proofs.samples.write_row.Statement.{statement}
 use Rattle.writer.proofs.samples.write_row.Tie as tie
 

@@ -5,7 +5,7 @@ use Prim.Native.Nat.{_+_, _*_, _≤_}
 use native.Mathlib.Omega.{arith}
 use lib.ListN.{length}
 use Rattle.steps.specs.Place.{spread}
-use Rattle.writer.proofs.Laws.Frame.{sampleRows, room-row, room-again, samples-row-fits, samples-placed, samples-kept, rows-count-end, rows-store-end}
+use Rattle.writer.proofs.Laws.Rows.{sampleRows, room-row, room-again, samples-row-fits, samples-placed, samples-kept, rows-count-end, rows-store-end}
 use Rattle.writer.proofs.samples.write_rows.Statement.{statement}
 use Rattle.writer.proofs.samples.write_rows.Tie as tie
 
