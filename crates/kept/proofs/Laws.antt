@@ -1,3 +1,7 @@
--- The theorems over the definitions in `specs/`, a file for each of its files.
-pub mod Numbered
+-- The theorems over the definitions in `specs/`, and the steps to them.
 pub mod Skies
+pub mod Numbered
+pub mod Samples
+pub mod Frame
+pub mod Back
+pub mod Calls

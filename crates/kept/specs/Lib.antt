@@ -1,3 +1,4 @@
 -- What the inspector is handed: sentences over the definitions that the calls promise.
-pub mod Numbered
 pub mod Skies
+pub mod Numbered
+pub mod Back
