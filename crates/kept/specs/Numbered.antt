@@ -1,12 +1,17 @@
 -- "Each refusal is given exactly when document 01 says": each call's checks, in its order.
-use Prim.Native.Nat.{ℕ}
+use Prim.Native.Nat.{ℕ, _*_}
 use mathlib.Core.List.{List, [], _∷_, _++_}
+use lib.ListN.{length}
+use lib.Dec.{ltb}
 use lib.Ieee.{Float}
 use Rattle.steps.specs.Answer.{Check, check}
-use Rattle.header.specs.declared.Head.{Head}
 use Rattle.header.specs.Head.{headChecks, fieldsOf, headOf}
 use Rattle.reader.specs.Frame.{cleared, rowsOf, endsEarly}
 use Rattle.reader.specs.Read.{frameChecks, crateRow, cratePixel}
+use Rattle.writer.specs.Samples.{firstBright}
+use Rattle.writer.specs.Frame.{frameOf}
+use Rattle.writer.specs.Write as writer
+use Rattle.writer.specs.Write.{fileOf}
 
 -- the reader: 1 to 8 before anything is written, and then 9
 unfoldable pub readChecks : List ℕ → ℕ → ℕ → List Float → List ℕ → List Check
@@ -14,3 +19,15 @@ readChecks bytes widest highest out store =
     let head = headOf (fieldsOf bytes) in
     let rows = rowsOf crateRow cratePixel bytes (head .width) (head .height) (head .taken) out (cleared (head .width) store) in
     headChecks bytes widest highest ++ (frameChecks head out store ++ check 9 (endsEarly (rows .0)) ∷ [])
+
+-- the length of a frame of samples: 7, 10, 11, 12
+unfoldable pub lengthChecks : ℕ → ℕ → List Float → List Check
+lengthChecks w h samples = writer.frameChecks w h (length samples) 3 ++ check 12 (ltb (firstBright samples 0 (w * h)) (w * h)) ∷ []
+
+-- the writer from samples: 7, 10, 11, 12, 13
+unfoldable pub writeChecks : ℕ → ℕ → List Float → List ℕ → List Check
+writeChecks w h samples out = lengthChecks w h samples ++ check 13 (ltb (length out) (length (fileOf samples w h))) ∷ []
+
+-- the writer from four-byte pixels: 7, 10, 11, 13. Their length has 7, 10, 11, and the worst length 7 and 10 (`frameChecks`, `sizeChecks`)
+unfoldable pub write4Checks : ℕ → ℕ → List ℕ → List ℕ → List Check
+write4Checks w h px out = writer.frameChecks w h (length px) 4 ++ check 13 (ltb (length out) (length (frameOf px w h))) ∷ []

@@ -1,0 +1,61 @@
+-- No written frame is longer than the worst length, and at each width and height some frame reaches it.
+use Prim.Native.Nat.{ℕ, _*_, _<_, _≤_}
+use mathlib.Core.Bool.{Bool, true, false}
+use mathlib.Core.List.{List, [], _∷_}
+use mathlib.Core.Logic.{_⊎_}
+use mathlib.Core.Path.{_≡_, subst}
+use native.Mathlib.Omega.{arith}
+use lib.ListN.{length}
+use lib.Dec.{ltb}
+use lib.Ieee.{Float}
+use Rattle.steps.specs.Loop.{pick}
+use Rattle.steps.specs.Answer.{Answer, done, refused, refuse, Check, check, checked}
+use Rattle.writer.proofs.Laws.Frame.{frame-worst}
+use Rattle.writer.proofs.Laws.Worst.{worst-flat-frame, worst-coded-frame}
+use Rattle.writer.specs.Samples.{packed, firstBright}
+use Rattle.writer.specs.Frame.{worstOf}
+use Rattle.writer.specs.Write.{frameChecks, brightChecked, lengthOf, length4Of}
+use Rattle.kept.specs.Longest.{flatWorst, codedWorst}
+
+-- ---- The worst length is the mission's
+
+pub worst-flat : (w h : ℕ) → (w ≤ 7) ⊎ (32767 < w) → worstOf w h ≡ flatWorst w h
+worst-flat w h k = worst-flat-frame w h k
+
+pub worst-coded : (w h : ℕ) → 8 ≤ w → w ≤ 32767 → worstOf w h ≡ codedWorst w h
+worst-coded w h l g = worst-coded-frame w h l g
+
+-- ---- No frame is longer
+
+-- no refusal can be taken for a length
+differ : (n m p : ℕ) → _≡_ {A = Answer ℕ} (refused m p) (done n) → ⊥
+differ n m p e = let z : _≡_ {A = ℕ} 0 1 = cc in omega arith
+
+-- what is answered past the checks is the frame's own length
+bright-done : (samples : List Float) (k n : ℕ) (rest : Answer ℕ) → brightChecked (λ a. a) samples k rest ≡ done n → rest ≡ done n
+unfolding brightChecked
+bright-done samples k n rest e = by (ltb (firstBright samples 0 k) k) e
+  where
+    by : (t : Bool) → pick t (refused 12 (firstBright samples 0 k)) rest ≡ done n → rest ≡ done n
+    by true f = absurd (differ n 12 (firstBright samples 0 k) f)
+    by false f = f
+
+checked-done : (checks : List Check) (n : ℕ) (rest : Answer ℕ) → checked refuse checks rest ≡ done n → rest ≡ done n
+checked-done [] n rest e = e
+checked-done (check number true ∷ checks) n rest e = absurd (differ n number 0 e)
+checked-done (check number false ∷ checks) n rest e = checked-done checks n rest e
+
+is-length : (n m : ℕ) → _≡_ {A = Answer ℕ} (done m) (done n) → m ≡ n
+is-length n m e = cc
+
+-- `writer::length`: a frame of samples that is not refused
+pub never-longer : (w h : ℕ) (samples : List Float) (n : ℕ) → lengthOf w h samples ≡ done n → n ≤ worstOf w h
+unfolding lengthOf
+never-longer w h samples n e =
+    subst (λ (m : ℕ). m ≤ worstOf w h)
+    (is-length n _ (bright-done samples (w * h) n _ (checked-done (frameChecks w h (length samples) 3) n _ e))) (frame-worst (packed samples 0 (w * h)) w h)
+
+-- `writer::length4`: a frame of four-byte pixels that is not refused
+pub never-longer-4 : (w h : ℕ) (px : List ℕ) (n : ℕ) → length4Of w h px ≡ done n → n ≤ worstOf w h
+unfolding length4Of
+never-longer-4 w h px n e = subst (λ (m : ℕ). m ≤ worstOf w h) (is-length n _ (checked-done (frameChecks w h (length px) 4) n _ e)) (frame-worst px w h)
