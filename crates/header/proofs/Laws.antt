@@ -4,3 +4,4 @@ pub mod Fields
 pub mod Sizes
 pub mod Head
 pub mod Written
+pub mod Back

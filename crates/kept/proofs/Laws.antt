@@ -1,5 +1,9 @@
--- The theorems over the definitions in `specs/`, a file for each of its files.
+-- The theorems over the definitions in `specs/`, and the steps to them.
 pub mod Longest
 pub mod Reached
 pub mod Numbered
+pub mod Samples
+pub mod Frame
+pub mod Back
+pub mod Calls
 pub mod Skies

@@ -1,4 +1,5 @@
 -- What the inspector is handed: sentences over the definitions that the calls promise.
 pub mod Longest
 pub mod Numbered
+pub mod Back
 pub mod Skies

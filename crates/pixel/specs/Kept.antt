@@ -19,8 +19,9 @@ pub record InRange (p : Pixel) : Type 0 where
 unfoldable pub stepOf : Pixel → ℕ
 stepOf p = 2 ^ (size (peak p) - 8)
 
--- the sample x 'comes back', as y, 'at most its value and less than one step below it'
+-- the sample x 'comes back', as y, a number again, 'at most its value and less than one step below it'
 pub record Kept (step : ℕ) (x y : Float) : Type 0 where
+  pub number : T (plain y)
   pub at-most : mag y ≤ mag x
   pub near : mag x < mag y + step
 

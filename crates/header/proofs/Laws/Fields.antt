@@ -56,7 +56,7 @@ module _ (part : List ℕ) (i : ℕ) (w : List ℕ) (is : trimStart (drop i part
 
 -- ---- At the end: white space from the place i on
 
-end-by : (ys : List ℕ) (x : ℕ) (t : Bool) → t ≡ isBlank x → trimEnd (ys ++ x ∷ []) ≡ pick t (trimEnd ys) (ys ++ x ∷ [])
+pub end-by : (ys : List ℕ) (x : ℕ) (t : Bool) → t ≡ isBlank x → trimEnd (ys ++ x ∷ []) ≡ pick t (trimEnd ys) (ys ++ x ∷ [])
 unfolding trimEnd trimStart
 end-by ys x true e = rw (reverse-append ys (x ∷ [])) (simp (sym e))
 end-by ys x false e = rw (reverse-append ys (x ∷ [])) (simp (sym e, reverse-cons, reverse-reverse))

@@ -33,11 +33,11 @@ upTo-some b x xs = some (eqb x b) (upTo b xs)
     some true n = omega arith
     some false n = omega arith
 
-upTo-found : (b x : ℕ) (xs : List ℕ) → x ≡ b → upTo b (x ∷ xs) ≡ 1
+pub upTo-found : (b x : ℕ) (xs : List ℕ) → x ≡ b → upTo b (x ∷ xs) ≡ 1
 unfolding upTo
 upTo-found b x xs e = simp (eq-eqb x b e)
 
-upTo-on : (b x : ℕ) (xs : List ℕ) → (x ≡ b → ⊥) → upTo b (x ∷ xs) ≡ 1 + upTo b xs
+pub upTo-on : (b x : ℕ) (xs : List ℕ) → (x ≡ b → ⊥) → upTo b (x ∷ xs) ≡ 1 + upTo b xs
 unfolding upTo
 upTo-on b x xs e = simp (ne-eqb x b e)
 

@@ -69,7 +69,7 @@ high : (x : ℕ) → 57 < x → isDigit x ≡ false
 unfolding isDigit
 high x h = let k : 48 ≤ x = omega arith in simp (le-leb 48 x k, lt-leb x 57 h)
 
-digit : (x : ℕ) → 48 ≤ x → x ≤ 57 → isDigit x ≡ true
+pub digit : (x : ℕ) → 48 ≤ x → x ≤ 57 → isDigit x ≡ true
 unfolding isDigit
 digit x h k = simp (le-leb 48 x h, le-leb x 57 k)
 

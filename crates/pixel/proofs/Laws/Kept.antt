@@ -14,7 +14,7 @@ use Rattle.pixel.specs.declared.Rgbe.{Rgbe}
 use Rattle.pixel.specs.Units.{ofUnits, mag, plain}
 use Rattle.pixel.specs.Rgbe.{crateScale, crateUnits, pixelOf, peak, dark, byteOf, bytesOf}
 use Rattle.pixel.specs.Kept.{InRange, stepOf, Kept, KeptAll, zeros}
-use Rattle.pixel.proofs.Laws.Units.{zero-exact, mag-is}
+use Rattle.pixel.proofs.Laws.Units.{zero-exact, exact-plain, mag-is}
 use Rattle.pixel.proofs.Laws.Samples.{shape, own-mag}
 use Rattle.pixel.proofs.Laws.Scales.{doc-at, scales-meet}
 use Rattle.pixel.proofs.Laws.Values.{crate-exact}
@@ -51,8 +51,13 @@ comes-back n N l h u = mag-is _ _ (crate-exact (byteOf N n) (N - 21) (byte-lt n 
 
 kept : (x : Float) (N : ℕ) → 118 ≤ N → N ≤ 180 → mag x < 2 ^ N → Kept (2 ^ (N - 8)) x (ofUnits (crateUnits (byteOf N (mag x)) (N - 21)))
 kept x N l h u =
+    let n : ℕ = crateUnits (byteOf N (mag x)) (N - 21) in
     let is = comes-back (mag x) N l h u in
-    record { at-most = parts-le _ _ _ _ (split (mag x) (N - 8)) is; near = parts-lt _ _ _ _ _ (split (mag x) (N - 8)) (mod-lt (mag x) (pow-pos (N - 8))) is }
+    record {
+      number = exact-plain (ofUnits n) n (crate-exact (byteOf N (mag x)) (N - 21) (byte-lt (mag x) N u));
+      at-most = parts-le _ _ _ _ (split (mag x) (N - 8)) is;
+      near = parts-lt _ _ _ _ _ (split (mag x) (N - 8)) (mod-lt (mag x) (pow-pos (N - 8))) is;
+    }
   where
     parts-le : (a b n y : ℕ) → a + b ≡ n → y ≡ a → y ≤ n
     parts-le a b n y h e = omega arith
@@ -87,7 +92,7 @@ zero-kept p h =
     zero : (x : Float) → mag x ≤ peak p → Kept (stepOf p) x (ofUnits 0)
     zero x l =
         let k = none (mag x) (peak p) (mag (ofUnits 0)) (stepOf p) l h (mag-is _ _ zero-exact) (pow-pos (size (peak p) - 8)) in
-        record { at-most = k .0; near = k .1 }
+        record { number = exact-plain (ofUnits 0) 0 zero-exact; at-most = k .0; near = k .1 }
 
 -- demand 3 at a pixel
 pub kept-at-a-pixel : (p : Pixel) → InRange p → KeptAll (stepOf p) p (pixelOf crateUnits (bytesOf p))

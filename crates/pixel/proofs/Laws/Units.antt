@@ -1,10 +1,10 @@
 -- The laws of `specs/Units.antt`: a float and its whole number of 2^-149.
 use mathlib.Core.Path.{_≡_, refl, sym, ap, _∙_, subst}
-use mathlib.Core.Bool.{Bool, false, not}
+use mathlib.Core.Bool.{Bool, true, false, not}
 use Prim.Native.Nat.{ℕ, _*_, _/_, _^_, _≤_, _<_}
 use native.Mathlib.Nat.{mul-pos, mul-mul-mul-comm, mul-div-cancel, one-mul}
 use lib.IntN.{pos}
-use lib.Dec.{T, lit<}
+use lib.Dec.{T, eqb, lit<}
 use lib.Pow.{pow-pos, pow-lt}
 use lib.Ieee.{Float, nan, inf, fin, binary32, up, down, round, mul, ofInt, unlike, fits}
 use lib.Ieee.Exact.{HasValue, round-exact}
@@ -12,7 +12,7 @@ use lib.Ieee.Fits.{down-pos, round-fits}
 use lib.Ieee.Back.{round-whole}
 use lib.Ieee.Scale.{round-same}
 use Rattle.steps.specs.Loop.{pick}
-use Rattle.pixel.specs.Units.{ofUnits, Exactly, mag, bright}
+use Rattle.pixel.specs.Units.{ofUnits, Exactly, mag, bright, plain}
 
 -- ---- what has few enough digits is exact
 pub units-exact : (q j : ℕ) → q < 2 ^ 24 → q * 2 ^ j < 2 ^ 277 → Exactly (ofUnits (q * 2 ^ j)) (q * 2 ^ j)
@@ -33,6 +33,11 @@ pub exact-bright : (x : Float) (n : ℕ) → Exactly x n → T (bright x)
 exact-bright nan n h = absurd h
 exact-bright (inf s) n h = absurd h
 exact-bright (fin s m e) n h = subst (λ (t : Bool). T (not t)) (sym (h .0)) tt
+
+pub exact-plain : (x : Float) (n : ℕ) → Exactly x n → T (plain x)
+exact-plain nan n h = absurd h
+exact-plain (inf s) n h = absurd h
+exact-plain (fin s m e) n h = subst (λ (t : Bool). T (pick t (eqb m 0) true)) (sym (h .0)) tt
 
 -- the whole number of a float that is exactly n is n
 pub mag-is : (x : Float) (n : ℕ) → Exactly x n → mag x ≡ n

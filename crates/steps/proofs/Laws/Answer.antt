@@ -2,7 +2,7 @@
 use Prim.Native.Nat.{ℕ}
 use mathlib.Core.Bool.{Bool, true, false}
 use mathlib.Core.List.{List, [], _∷_, _++_}
-use mathlib.Core.Path.{_≡_, refl}
+use mathlib.Core.Path.{_≡_, refl, sym}
 use native.Mathlib.Omega.{arith}
 use Rattle.steps.specs.Answer.{done, refused, refuse, Check, check, checked}
 
@@ -11,14 +11,21 @@ abbrev pub Passed : List Check → Type 0
 Passed [] = Unit {0}
 Passed (check number fails ∷ checks) = (fails ≡ false) × Passed checks
 
-differ : {A : Type 0} (a : A) (n p : ℕ) → done a ≡ refused n p → ⊥
+pub differ : {A : Type 0} (a : A) (n p : ℕ) → done a ≡ refused n p → ⊥
 differ a n p e = let z : _≡_ {A = ℕ} 0 1 = cc in omega arith
+
+-- an answer that no refusal gives has passed every check
+pub passed-by : {A : Type 0} (refusing : ℕ → A) (checks : List Check) (rest x : A) → ((n : ℕ) → refusing n ≡ x → ⊥) → checked refusing checks rest ≡ x → Passed checks × (rest ≡ x)
+passed-by refusing [] rest x never e = (tt, e)
+passed-by refusing (check number true ∷ checks) rest x never e = absurd (never number e)
+passed-by refusing (check number false ∷ checks) rest x never e = let others = passed-by refusing checks rest x never e in ((refl, others .0), others .1)
 
 -- what is done has passed every check
 pub passed : {A : Type 0} (checks : List Check) (a x : A) → checked refuse checks (done a) ≡ done x → Passed checks × (a ≡ x)
-passed [] a x e = (tt, cc)
-passed (check number true ∷ checks) a x e = absurd (let z : _≡_ {A = ℕ} 0 1 = cc in omega arith)
-passed (check number false ∷ checks) a x e = let rest = passed checks a x e in ((refl, rest .0), rest .1)
+passed checks a x e =
+    let both = passed-by refuse checks (done a) (done x) (λ n k. differ x n 0 (sym k)) e in
+    let same = both .1 in
+    (both .0, cc)
 
 pub pass : {A : Type 0} (refusing : ℕ → A) (checks : List Check) (rest : A) → Passed checks → checked refusing checks rest ≡ rest
 pass refusing [] rest p = refl

@@ -3,9 +3,10 @@ use Prim.Native.Nat.{ℕ, zero, suc, _+_, _-_, _*_, _<_, _≤_}
 use mathlib.Core.List.{List, [], _∷_, _++_}
 use mathlib.Core.Path.{_≡_, refl, sym, ap, _∙_}
 use native.Mathlib.Nat.{not-suc-le-zero, add-zero}
+use native.Mathlib.Numerals.{add-one}
 use native.Mathlib.Omega.{arith}
 use lib.ListN.{length, getD, drop, set, replicate, length-set, length-drop}
-use lib.Seq.{getD-drop, drop-drop, drop-append-seam}
+use lib.Seq.{getD-drop, drop-drop, drop-append-seam, sets, sets-eq}
 use Rattle.steps.specs.Place.{bytesFrom, spread}
 
 pub length-spread : {A : Type 0} (d : ℕ) (s : List A) (i : ℕ) (vs : List A) → length (spread d s i vs) ≡ length s
@@ -92,3 +93,25 @@ bytes-there src at [] rest e = refl
 bytes-there src at (x ∷ p) rest e =
     let next = drop-next src at x (p ++ rest) e in
     rw (next .1) (ap (λ (l : List ℕ). x ∷ l) (bytes-there src (at + 1) p rest (next .2)))
+
+-- ---- A list that is stored from the start of another
+
+spread-sets : {A : Type 0} (s : List A) (i : ℕ) (vs : List A) → spread 1 s i vs ≡ sets s i vs
+unfolding spread
+spread-sets s i [] = refl
+spread-sets s i (v ∷ vs) = spread-sets (set s i v) (i + 1) vs ∙ ap (λ (k : ℕ). sets (set s i v) k vs) (add-one i)
+
+-- it is the front, and the rest is as it was
+pub spread-front : {A : Type 0} (s vs : List A) → length vs ≤ length s → spread 1 s 0 vs ≡ vs ++ drop (length vs) s
+spread-front s vs h =
+    let none : 0 + length vs ≡ length vs = omega arith in
+    spread-sets s 0 vs ∙ sets-eq vs s 0 (omega arith) ∙ ap (λ (k : ℕ). vs ++ drop k s) none
+
+-- each of n bytes from a place on
+pub getD-bytes : (xs : List ℕ) (p n i : ℕ) → i < n → getD (bytesFrom xs p n) i 0 ≡ getD xs (p + i) 0
+unfolding bytesFrom
+getD-bytes xs p zero i h = absurd (not-suc-le-zero h)
+getD-bytes xs p (suc n) zero h = ap (λ (k : ℕ). getD xs k 0) (sym (add-zero p))
+getD-bytes xs p (suc n) (suc i) h =
+    let next : p + 1 + i ≡ p + suc i = omega arith in
+    getD-bytes xs (p + 1) n i (omega arith) ∙ ap (λ (k : ℕ). getD xs k 0) next

@@ -1,31 +1,18 @@
 -- One row of samples, packed into a line or straight into the output.
 use Prim.Native.Nat.{ℕ, _+_, _*_, _≤_}
 use mathlib.Core.Bool.{Bool, true, false}
-use mathlib.Core.List.{List, [], _∷_, _++_, append-nil}
-use mathlib.Core.Path.{_≡_, refl, sym, ap, _∙_}
-use native.Mathlib.Numerals.{add-one}
+use mathlib.Core.List.{List, [], append-nil}
+use mathlib.Core.Path.{_≡_, sym, ap, _∙_}
 use native.Mathlib.Omega.{arith}
-use lib.ListN.{length, set, drop}
-use lib.Seq.{sets, sets-eq}
+use lib.ListN.{length, drop}
 use lib.Ieee.{Float}
 use Rattle.steps.specs.Place.{spread, bytesFrom}
 use Rattle.runs.specs.Row.{isCoded, rowOf}
 use Rattle.runs.proofs.Laws.Row.{row-flat, flat-size, coded-widths}
-use Rattle.steps.proofs.Laws.Place.{bytes-there}
+use Rattle.steps.proofs.Laws.Place.{bytes-there, spread-front}
 use Rattle.writer.specs.Samples.{packed}
 use Rattle.writer.proofs.Laws.Samples.{length-packed}
 use Rattle.writer.proofs.Laws.Rows.{row-front}
-
-spread-sets : (s : List ℕ) (i : ℕ) (us : List ℕ) → spread 1 s i us ≡ sets s i us
-unfolding spread
-spread-sets s i [] = refl
-spread-sets s i (u ∷ us) = spread-sets (set s i u) (i + 1) us ∙ ap (λ (k : ℕ). sets (set s i u) k us) (add-one i)
-
--- values stored at the front stand there, and what follows them is as it was
-pub spread-front : (s us : List ℕ) → length us ≤ length s → spread 1 s 0 us ≡ us ++ drop (length us) s
-spread-front s us h =
-    let none : 0 + length us ≡ length us = omega arith in
-    spread-sets s 0 us ∙ sets-eq us s 0 (omega arith) ∙ ap (λ (k : ℕ). us ++ drop k s) none
 
 -- a coded row fits the line
 pub coded-room : (w : ℕ) (t : Bool) → t ≡ isCoded w → t ≡ true → 4 * w ≤ 131072

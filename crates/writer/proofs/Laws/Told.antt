@@ -1,31 +1,26 @@
 -- What an answer of the writer tells: refusal 12 and its pixel, the length of the bytes that stand in the output, and that there is one answer.
 use Prim.Native.Nat.{ℕ, _*_, _≤_}
 use mathlib.Core.Bool.{Bool, true, false}
-use mathlib.Core.List.{List, [], _∷_, _++_}
+use mathlib.Core.List.{List, _++_}
 use mathlib.Core.Path.{_≡_, refl, sym, ap, _∙_}
 use native.Mathlib.Omega.{arith}
 use borrow.Author.Tests.{ltb-true, ltb-false}
 use lib.ListN.{length, drop}
 use lib.Dec.{ltb}
 use lib.Ieee.{Float}
-use Rattle.steps.specs.Answer.{Answer, done, refused, refuse, Check, check, checked}
+use Rattle.steps.specs.Answer.{Answer, done, refused, refuse}
 use Rattle.steps.specs.declared.amount.Amount.{Amount}
-use Rattle.steps.proofs.Laws.Answer.{Passed, pass}
+use Rattle.steps.proofs.Laws.Answer.{Passed, passed-by, differ, pass}
+use Rattle.steps.proofs.Laws.Place.{spread-front}
 use Rattle.writer.specs.Samples.{firstBright, FirstBright}
 use Rattle.writer.specs.Frame.{frameOf}
 use Rattle.writer.specs.Write.{frameChecks, brightChecked, Left, stored, fileOf, lengthOf, length4Of, writeOf, write4Of, paperOf, LengthPromise, Length4Promise, WorstPromise, WritePromise, Write4Promise, ExpectedPromise}
 use Rattle.writer.specs.declared.WriteAnswer.{WriteAnswer}
 use Rattle.writer.specs.declared.WriteAnswer.the-variants.{Done, Refused}
 use Rattle.writer.proofs.Laws.Samples.{first-named, first-only}
-use Rattle.writer.proofs.Laws.Line.{spread-front}
 use Rattle.writer.proofs.Laws.Write.{bright-refuses, bright-passes, stored-fits, stored-none}
 
 -- ---- Inversions: what is answered comes from the checks, from check 12, or from the rest
-
-passed-by : {A : Type 0} (refusing : ℕ → A) (checks : List Check) (rest z : A) → ((n : ℕ) → refusing n ≡ z → ⊥) → checked refusing checks rest ≡ z → Passed checks × (rest ≡ z)
-passed-by refusing [] rest z other e = (tt, e)
-passed-by refusing (check number true ∷ checks) rest z other e = absurd (other number e)
-passed-by refusing (check number false ∷ checks) rest z other e = let more = passed-by refusing checks rest z other e in ((refl, more .0), more .1)
 
 module _ {A : Type 0} (answer : Answer ℕ → A) (samples : List Float) (n : ℕ) (rest z : A) (e : brightChecked answer samples n rest ≡ z) where
   abbrev first : ℕ
@@ -52,9 +47,6 @@ module _ {A : Type 0} (answer : Answer ℕ → A) (samples : List Float) (n : �
           let past = ltb-false first n is in
           (past, bright-passes answer samples n first rest refl past ∙ e)
 
-done-refused : (a n p : ℕ) → done a ≡ refused n p → ⊥
-done-refused a n p e = let z : _≡_ {A = ℕ} 0 1 = cc in omega arith
-
 done-of : {a b : ℕ} → done a ≡ done b → a ≡ b
 done-of e = cc
 
@@ -77,13 +69,13 @@ module _ (file out : List ℕ) (z : Left) (e : stored file out ≡ z) where
       go : (t : Bool) → ltb (length out) (length file) ≡ t → number ≡ 13
       go true is = number-of (sym k ∙ ap (λ (x : Left). x .0) (sym (stored-none file out (ltb-true (length out) (length file) is) ∙ e)))
       go false is =
-          absurd (done-refused (length file) number place (ap (λ (x : Left). x .0) (stored-fits file out _ _ (ltb-false (length out) (length file) is) refl refl ∙ e) ∙ k))
+          absurd (differ (length file) number place (ap (λ (x : Left). x .0) (stored-fits file out _ _ (ltb-false (length out) (length file) is) refl refl ∙ e) ∙ k))
 
   stored-tells : (n : ℕ) → z .0 ≡ done n → Stored file out n (z .1)
   stored-tells n k = go (ltb (length out) (length file)) refl
     where
       go : (t : Bool) → ltb (length out) (length file) ≡ t → Stored file out n (z .1)
-      go true is = absurd (done-refused n 13 0 (sym k ∙ ap (λ (x : Left). x .0) (sym (stored-none file out (ltb-true (length out) (length file) is) ∙ e))))
+      go true is = absurd (differ n 13 0 (sym k ∙ ap (λ (x : Left). x .0) (sym (stored-none file out (ltb-true (length out) (length file) is) ∙ e))))
       go false is =
           let fits = ltb-false (length out) (length file) is in
           let same = stored-fits file out _ _ fits refl refl ∙ e in
@@ -101,7 +93,7 @@ module _ (w h : ℕ) (samples : List Float) (p : Passed (frameChecks w h (length
   length-names k f = length-rest ∙ sym (bright-refuses (λ a. a) samples (w * h) k _ (sym (first-only samples (w * h) k f)) (f .within))
 
   pub length-named : (k : ℕ) → lengthOf w h samples ≡ refused 12 k → FirstBright samples (w * h) k
-  length-named k e = bright-tells (λ a. a) samples (w * h) _ _ (sym length-rest ∙ e) k (λ d. done-refused _ 12 k d) (λ d. place-of d)
+  length-named k e = bright-tells (λ a. a) samples (w * h) _ _ (sym length-rest ∙ e) k (λ d. differ _ 12 k d) (λ d. place-of d)
 
   module _ (out : List ℕ) where
     write-rest : writeOf w h samples out ≡ brightChecked (λ a. (a, out)) samples (w * h) (stored (fileOf samples w h) out)
@@ -125,8 +117,8 @@ module _ (w h n : ℕ) where
   unfolding writeOf lengthOf
   write-told samples out out′ e =
       let refusing : ℕ → Left = λ m. (refuse m, out) in
-      let both = passed-by refusing (frameChecks w h (length samples) 3) _ (done n, out′) (λ m d. done-refused n m 0 (ap (λ (x : Left). x .0) (sym d))) e in
-      let rest = bright-rest (λ a. (a, out)) samples (w * h) _ _ (both .1) (λ d. done-refused n 12 _ (ap (λ (x : Left). x .0) (sym d))) in
+      let both = passed-by refusing (frameChecks w h (length samples) 3) _ (done n, out′) (λ m d. differ n m 0 (ap (λ (x : Left). x .0) (sym d))) e in
+      let rest = bright-rest (λ a. (a, out)) samples (w * h) _ _ (both .1) (λ d. differ n 12 _ (ap (λ (x : Left). x .0) (sym d))) in
       let told = stored-tells (fileOf samples w h) out (done n, out′) (rest .1) n refl in
       let same = pass refuse (frameChecks w h (length samples) 3) _ (both .0) ∙ sym (bright-passes (λ a. a) samples (w * h) _ _ refl (rest .0)) in
       (both .0, same ∙ ap done (sym (told .size)), told)
@@ -136,7 +128,7 @@ module _ (w h n : ℕ) where
   unfolding write4Of length4Of
   write4-told px out out′ e =
       let refusing : ℕ → Left = λ m. (refuse m, out) in
-      let both = passed-by refusing (frameChecks w h (length px) 4) _ (done n, out′) (λ m d. done-refused n m 0 (ap (λ (x : Left). x .0) (sym d))) e in
+      let both = passed-by refusing (frameChecks w h (length px) 4) _ (done n, out′) (λ m d. differ n m 0 (ap (λ (x : Left). x .0) (sym d))) e in
       let told = stored-tells (frameOf px w h) out (done n, out′) (both .1) n refl in
       (both .0, pass refuse (frameChecks w h (length px) 4) _ (both .0) ∙ ap done (sym (told .size)), told)
 

@@ -1,0 +1,133 @@
+-- Demand 3, read back, for the whole frame, over the definitions of writer and reader.
+use Prim.Native.Nat.{ℕ, _+_, _-_, _*_, _<_, _≤_, zero-le}
+use mathlib.Core.Bool.{Bool, true, false, _&&_}
+use mathlib.Core.List.{List, _++_}
+use mathlib.Core.Logic.{⊎-elim}
+use mathlib.Core.Path.{_≡_, refl, sym, ap, subst, _∙_}
+use native.Mathlib.Nat.{mul-comm, mul-left-comm, zero-add}
+use native.Mathlib.Omega.{arith}
+use borrow.Author.Tests.{ne-eqb}
+use lib.Dec.{eqb}
+use lib.Ieee.{Float, size}
+use lib.Ieee.Digits.{size-le, size-lt, size-reaches}
+use lib.ListN.{length, drop}
+use lib.Seq.{drop-at}
+use Rattle.steps.specs.Place.{spread}
+use Rattle.steps.proofs.Laws.Place.{length-spread, spread-front}
+use Rattle.pixel.specs.declared.Pixel.{Pixel}
+use Rattle.pixel.specs.declared.Rgbe.{Rgbe}
+use Rattle.pixel.specs.Rgbe.{crateUnits, pixelOf, peak, dark, bytesOf, Written}
+use Rattle.pixel.specs.Kept.{InRange, stepOf, KeptAll, zeros}
+use Rattle.pixel.proofs.Laws.Digits.{size-gt}
+use Rattle.pixel.proofs.Laws.Kept.{kept-at-a-pixel, black-back}
+use Rattle.pixel.proofs.Laws.Written.{written-bytes}
+use Rattle.rows.specs.Flat.{isRepeat}
+use Rattle.reader.specs.Samples.{rgbeAt, samplesFrom}
+use Rattle.reader.specs.Read.{cratePixel}
+use Rattle.writer.specs.Samples.{pixelAt, packed}
+use Rattle.kept.specs.Back.{pixel, Sizes, AllInRange, Beyond, Lies, step, NoOnes, ComesBack, ComesBack4}
+use Rattle.kept.proofs.Laws.Samples.{length-samples, pixel-of-samples, bytes-of-pixel}
+use Rattle.kept.proofs.Laws.Frame.{frame-back}
+
+-- ---- A frame of four-byte pixels
+
+module _ (w h : ℕ) (px : List ℕ) (lent out : List Float) (room : 3 * (w * h) ≤ length lent) (is : out ≡ spread 1 lent 0 (samplesFrom cratePixel px 0 (w * h))) where
+  abbrev back : List Float
+  back = samplesFrom cratePixel px 0 (w * h)
+
+  front : out ≡ back ++ drop (3 * (w * h)) lent
+  front =
+      let size = length-samples cratePixel px 0 (w * h) in
+      is ∙ spread-front lent back (omega arith) ∙ ap (λ (n : ℕ). back ++ drop n lent) size
+
+  pixels-there : (k : ℕ) → k < w * h → pixel out k ≡ cratePixel (rgbeAt px (4 * k))
+  pixels-there k l =
+      let here : 0 + 4 * k ≡ 4 * k = omega arith in
+      ap (λ (o : List Float). pixel o k) front ∙ pixel-of-samples cratePixel px (drop (3 * (w * h)) lent) 0 (w * h) k l ∙ ap (λ (i : ℕ). cratePixel (rgbeAt px i)) here
+
+  beyond-there : Beyond (3 * (w * h)) lent out
+  beyond-there = record {
+    long = ap length is ∙ length-spread 1 lent 0 back;
+    rest = ap (drop (3 * (w * h))) front ∙ drop-at back (drop (3 * (w * h)) lent) (3 * (w * h)) (length-samples cratePixel px 0 (w * h));
+  }
+
+pub read-back4 : (w h : ℕ) (px : List ℕ) → Sizes w h → NoOnes px w (w * h) → ComesBack4 w h px
+read-back4 w h px sizes none rest widest highest out store enough =
+    let room : h * (3 * w) ≤ length out = rw (mul-left-comm, mul-comm h w) (enough .room) in
+    let both = frame-back px w h rest widest highest out store (sizes .some) (omega arith) (omega arith) room (enough .row)
+    (λ flat k l. ap (isRepeat px) (zero-add (4 * k)) ∙ none flat k (rw mul-comm l)) in
+    let is = both .1 ∙ ap (λ (n : ℕ). spread 1 out 0 (samplesFrom cratePixel px 0 n)) (mul-comm h w) in
+    record {
+      answered = both .0;
+      pixels = pixels-there w h px out _ (enough .room) is;
+      beyond = beyond-there w h px out _ (enough .room) is;
+    }
+
+-- ---- No pixel that is packed is taken for a repeat: black is 0,0,0, and of any other one byte is at least 128
+
+ones : Rgbe → Bool
+ones q = eqb (q .r) 1 && (eqb (q .g) 1 && eqb (q .b) 1)
+
+and-no : (a b : Bool) → b ≡ false → (a && b) ≡ false
+and-no true b e = e
+and-no false b e = refl
+
+no-ones : (q : Rgbe) → Written q → ones q ≡ false
+unfolding ones
+no-ones q =
+    ⊎-elim (λ e. ap ones e)
+    (λ h. ⊎-elim (λ r. simp (high (q .r) r)) (λ w. and-no (eqb (q .r) 1) _ (⊎-elim (λ g. simp (high (q .g) g)) (λ b. and-no (eqb (q .g) 1) _ (high (q .b) b)) w)) (h .0))
+  where
+    high : (x : ℕ) → 128 ≤ x → eqb x 1 ≡ false
+    high x l = ne-eqb x 1 (λ e. omega arith)
+
+packed-bytes : (samples : List Float) (n k : ℕ) → k < n → rgbeAt (packed samples 0 n) (4 * k) ≡ bytesOf (pixel samples k)
+packed-bytes samples n k h = bytes-of-pixel samples 0 n k h ∙ ap (λ (i : ℕ). bytesOf (pixelAt samples i)) (zero-add (3 * k))
+
+packed-no-ones : (samples : List Float) (w n : ℕ) → NoOnes (packed samples 0 n) w n
+unfolding isRepeat ones
+packed-no-ones samples w n flat k h = ap ones (packed-bytes samples n k h) ∙ no-ones (bytesOf (pixel samples k)) (written-bytes (pixel samples k))
+
+-- ---- A pixel whose largest lies from 2^(n-1) to below 2^n has n binary digits
+
+lies-size : (p : Pixel) (n : ℕ) → Lies p n → size (peak p) ≡ n
+lies-size p n l =
+    let low : n - 1 < size (peak p) = size-gt (peak p) (n - 1) (l .from) in
+    let high : size (peak p) ≤ n = size-le (peak p) n (l .below) in
+    omega (arith, low, high)
+
+-- and every pixel that is not black has such an n
+pub lies-somewhere : (p : Pixel) → 0 < peak p → Lies p (size (peak p))
+lies-somewhere p h =
+    let some : 0 < size (peak p) = size-gt (peak p) 0 h in
+    record { from = size-reaches (peak p) (size (peak p) - 1) (omega arith); below = size-lt (peak p) }
+
+in-range : (samples : List Float) (n k : ℕ) → AllInRange samples n → k < n → InRange (pixel samples k)
+in-range samples n k all h =
+    let s = all .numbers k h in
+    record { r = s .r; g = s .g; b = s .b; largest = all .largest k h }
+
+-- ---- Demand 3
+
+module _ (p q : Pixel) (is : q ≡ pixelOf crateUnits (bytesOf p)) where
+  kept-there : InRange p → (n : ℕ) → Lies p n → KeptAll (step n) p q
+  unfolding stepOf
+  kept-there range n lies =
+      subst (KeptAll (step n) p) (sym is)
+      (subst (λ (d : ℕ). KeptAll (step d) p (pixelOf crateUnits (bytesOf p))) (lies-size p n lies) (kept-at-a-pixel p range))
+
+  black-there : peak p ≡ 0 → q ≡ zeros
+  black-there e = is ∙ black-back p (subst (λ (v : ℕ). v ≤ dark) (sym e) zero-le)
+
+pub read-back : (w h : ℕ) (samples : List Float) → Sizes w h → AllInRange samples (w * h) → ComesBack w h samples
+unfolding cratePixel
+read-back w h samples sizes all rest widest highest out store enough =
+    let px : List ℕ = packed samples 0 (w * h) in
+    let back = read-back4 w h px sizes (packed-no-ones samples w (w * h)) rest widest highest out store enough in
+    let is : (k : ℕ) → k < w * h → _ ≡ pixelOf crateUnits (bytesOf (pixel samples k)) = λ k l. back .pixels k l ∙ ap cratePixel (packed-bytes samples (w * h) k l) in
+    record {
+      answered = back .answered;
+      kept = λ k n l lies. kept-there (pixel samples k) _ (is k l) (in-range samples (w * h) k all l) n lies;
+      black = λ k l. black-there (pixel samples k) _ (is k l);
+      beyond = back .beyond;
+    }

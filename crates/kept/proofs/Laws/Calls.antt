@@ -1,0 +1,85 @@
+-- Demand 3 over what the calls promise: the file is what the writer left, and the reader's answer is that of its definition.
+use Prim.Native.Nat.{ℕ, _*_, _^_, _<_, _≤_}
+use mathlib.Core.Bool.{Bool, true, false, _||_, false≢true}
+use mathlib.Core.List.{List, _++_}
+use mathlib.Core.Logic.{⊎-elim}
+use mathlib.Core.Path.{_≡_, refl, sym, ap, subst, _∙_}
+use native.Mathlib.Nat.{pos-of-ne-zero, lt-of-lt-of-le}
+use native.Mathlib.Omega.{arith}
+use borrow.Author.Tests.{le-ltb, lt-leb, eq-eqb, ne-eqb, eqb-false, ltb-false}
+use lib.Dec.{ltb, lit<, lit≤}
+use lib.Ieee.{Float}
+use lib.ListN.{length, take, drop}
+use lib.Seq.{take-at}
+use Rattle.steps.specs.Answer.{Answer}
+use Rattle.steps.proofs.Laws.Answer.{Passed}
+use Rattle.pixel.specs.Rgbe.{peak, tooBright}
+use Rattle.header.specs.declared.Head.{Head}
+use Rattle.runs.proofs.Laws.Cut.{lt-or-ge}
+use Rattle.reader.specs.Read.{crateRow, cratePixel, readBy, paperOf, ReadPromise}
+use Rattle.reader.specs.declared.ReadAnswer.{ReadAnswer}
+use Rattle.writer.specs.Samples.{firstBright}
+use Rattle.writer.specs.Frame.{frameOf}
+use Rattle.writer.specs.Write.{frameChecks, brightChecked, stored, fileOf, writeOf}
+use Rattle.writer.proofs.Laws.Samples.{first-named}
+use Rattle.writer.proofs.Laws.Told.{Stored, write-told, write4-told}
+use Rattle.kept.specs.Back.{pixel, Sizes, Between, AllInRange, NoOnes, ReadBack, ReadBack4, CallsComeBack, CallsComeBack4, IsWritten}
+use Rattle.kept.proofs.Laws.Back.{read-back, read-back4}
+
+-- ---- The sizes of a frame that was written
+
+neither : (a b : Bool) → (a || b) ≡ false → (a ≡ false) × (b ≡ false)
+neither true b e = absurd (false≢true (sym e))
+neither false b e = (refl, e)
+
+sizes-passed : (w h got each : ℕ) → Passed (frameChecks w h got each) → Sizes w h
+sizes-passed w h got each p =
+    let both = neither (ltb 65535 w) (ltb 65535 h) (p .1 .0) in
+    record { some = pos-of-ne-zero (eqb-false w 0 (p .0)); wide = ltb-false 65535 w (both .0); high = ltb-false 65535 h (both .1) }
+
+-- ---- The reader on the bytes that the writer left: what holds of its definition on the file holds of the call
+
+module _ (file lent left : List ℕ) (n : ℕ) (wrote : Stored file lent n left) (rest : List ℕ) (widest highest : ℕ) (out out′ : List Float) (store store′ : List ℕ) (answer : ReadAnswer)
+    (read : ReadPromise (take n left ++ rest) widest highest out store answer out′ store′) where
+  by-calls : (P : ℕ → Answer Head × List Float × List ℕ → Type 0) → P (length file) (readBy crateRow cratePixel (file ++ rest) widest highest out store) → P n (paperOf answer, out′, store′)
+  by-calls P p =
+      let bytes : take n left ≡ file = ap (take n) (wrote .bytes) ∙ take-at file (drop n lent) n (sym (wrote .size)) in
+      subst (P n) (sym (read ∙ ap (λ (l : List ℕ). readBy crateRow cratePixel (l ++ rest) widest highest out store) bytes))
+      (subst (λ (m : ℕ). P m (readBy crateRow cratePixel (file ++ rest) widest highest out store)) (sym (wrote .size)) p)
+
+pub calls-back : (w h : ℕ) (samples : List Float) → AllInRange samples (w * h) → CallsComeBack w h samples
+calls-back w h samples all lent left n wrote rest widest highest out out′ store store′ answer enough read =
+    let told = write-told w h n samples lent left (sym wrote) in
+    by-calls (fileOf samples w h) lent left n (told .2) rest widest highest out out′ store store′ answer read (λ m z. ReadBack w h m samples out (z .0) (z .1))
+    (read-back w h samples (sizes-passed w h (length samples) 3 (told .0)) all rest widest highest out store enough)
+
+pub calls-back4 : (w h : ℕ) (px : List ℕ) → NoOnes px w (w * h) → CallsComeBack4 w h px
+calls-back4 w h px none lent left n wrote rest widest highest out out′ store store′ answer enough read =
+    let told = write4-told w h n px lent left (sym wrote) in
+    by-calls (frameOf px w h) lent left n (told .2) rest widest highest out out′ store store′ answer read (λ m z. ReadBack4 w h m px out (z .0) (z .1))
+    (read-back4 w h px (sizes-passed w h (length px) 4 (told .0)) none rest widest highest out store enough)
+
+-- ---- A frame in range is written: no pixel of it is too bright
+
+not-bright : (samples : List Float) (k : ℕ) → Between (peak (pixel samples k)) → tooBright (pixel samples k) ≡ false
+unfolding tooBright
+not-bright samples k b =
+    lt-leb (2 ^ 276) (peak (pixel samples k))
+    (⊎-elim (λ z. subst (λ (v : ℕ). v < 2 ^ 276) (sym z) (lit< tt)) (λ l. lt-of-lt-of-le (l .1) (lit≤ {m = 2 ^ 180} {n = 2 ^ 276} tt)) b)
+
+none-bright : (samples : List Float) (n : ℕ) → AllInRange samples n → n ≤ firstBright samples 0 n
+none-bright samples n all =
+    let k : ℕ = firstBright samples 0 n in
+    ⊎-elim (λ l. absurd (false≢true (sym (not-bright samples k (all .largest k l)) ∙ first-named samples n k refl l .bright))) (λ l. l) (lt-or-ge k n)
+
+pub in-range-written : (w h : ℕ) (samples : List Float) → Sizes w h → length samples ≡ 3 * (w * h) → AllInRange samples (w * h) → IsWritten w h samples
+unfolding writeOf brightChecked stored
+in-range-written w h samples sizes count all out room =
+    simp (
+      ne-eqb w 0 (λ e. omega arith),
+      le-ltb 65535 w (sizes .wide),
+      le-ltb 65535 h (sizes .high),
+      eq-eqb (length samples) (3 * (w * h)) count,
+      le-ltb (firstBright samples 0 (w * h)) (w * h) (none-bright samples (w * h) all),
+      le-ltb (length out) (length (fileOf samples w h)) room,
+    )

@@ -1,0 +1,134 @@
+-- Demand 3, read back: a frame that is written, and then read. Over whole numbers of 2^-149: 2^-32 is 2^117 of them, and 2^31 is 2^180.
+use Prim.Native.Nat.{ℕ, _-_, _*_, _^_, _<_, _≤_}
+use mathlib.Core.Bool.{false}
+use mathlib.Core.List.{List, _++_}
+use mathlib.Core.Logic.{_⊎_}
+use mathlib.Core.Path.{_≡_}
+use lib.Dec.{T}
+use lib.Ieee.{Float}
+use lib.ListN.{length, take, drop}
+use Rattle.steps.specs.Place.{spread}
+use Rattle.steps.specs.Answer.{Answer, done}
+use Rattle.pixel.specs.declared.Pixel.{Pixel}
+use Rattle.pixel.specs.Units.{plain}
+use Rattle.pixel.specs.Rgbe.{peak}
+use Rattle.pixel.specs.Kept.{KeptAll, zeros}
+use Rattle.header.specs.declared.Head.{Head}
+use Rattle.rows.specs.Flat.{isRepeat}
+use Rattle.runs.specs.Row.{isCoded}
+use Rattle.reader.specs.Samples.{rgbeAt}
+use Rattle.reader.specs.Read.{crateRow, cratePixel, readBy, paperOf, ReadPromise}
+use Rattle.reader.specs.declared.ReadAnswer.{ReadAnswer}
+use Rattle.writer.specs.Samples.{pixelAt}
+use Rattle.writer.specs.Frame.{frameOf}
+use Rattle.writer.specs.Write.{fileOf, writeOf, WritePromise, Write4Promise}
+use Rattle.writer.specs.declared.WriteAnswer.the-variants.{Done}
+
+-- the pixel k of a frame, of three samples to a pixel
+abbrev pub pixel : List Float → ℕ → Pixel
+pixel samples k = pixelAt samples (3 * k)
+
+-- ---- What is asked of a frame
+
+-- a width from 1 to 65,535 and a height up to that: what the writer takes
+pub record Sizes (w h : ℕ) : Type 0 where
+  pub some : 0 < w
+  pub wide : w ≤ 65535
+  pub high : h ≤ 65535
+
+-- "finite", and not "negative"
+pub record Numbers (p : Pixel) : Type 0 where
+  pub r : T (plain (p .r))
+  pub g : T (plain (p .g))
+  pub b : T (plain (p .b))
+
+-- "0 or from 2^-32 to below 2^31"
+abbrev pub Between : ℕ → Type 0
+Between v = (v ≡ 0) ⊎ ((2 ^ 117 ≤ v) × (v < 2 ^ 180))
+
+-- "all samples are finite, none is negative and each pixel's largest is 0 or from 2^-32 to below 2^31", of n pixels
+pub record AllInRange (samples : List Float) (n : ℕ) : Type 0 where
+  pub numbers : (k : ℕ) → k < n → Numbers (pixel samples k)
+  pub largest : (k : ℕ) → k < n → Between (peak (pixel samples k))
+
+-- "room and limits enough": the limits, and the output and row store that are lent
+pub record Enough (w h widest highest : ℕ) (out : List Float) (store : List ℕ) : Type 0 where
+  pub wide : w ≤ widest
+  pub high : h ≤ highest
+  pub room : 3 * (w * h) ≤ length out
+  pub row : 4 * w ≤ length store
+
+-- ---- What comes back
+
+-- "the pixel's largest lies from 2^(e-1) to below 2^e": n is e + 149
+pub record Lies (p : Pixel) (n : ℕ) : Type 0 where
+  pub from : 2 ^ (n - 1) ≤ peak p
+  pub below : peak p < 2 ^ n
+
+-- "A step is 2^(e-8)"
+abbrev pub step : ℕ → ℕ
+step n = 2 ^ (n - 8)
+
+-- the reader is done, answers width and height, and takes so many bytes
+abbrev pub doneWith : ℕ → ℕ → ℕ → Answer Head
+doneWith w h taken = done (record { width = w; height = h; taken = taken })
+
+-- beyond its first n samples the output is as lent
+pub record Beyond (n : ℕ) (lent out : List Float) : Type 0 where
+  pub long : length out ≡ length lent
+  pub rest : drop n out ≡ drop n lent
+
+-- the reader's answer, and the output that it made of the lent one, for a file of `size` bytes
+pub record ReadBack (w h size : ℕ) (samples lent : List Float) (answer : Answer Head) (out : List Float) : Type 0 where
+  -- "takes exactly the bytes written"
+  pub answered : answer ≡ doneWith w h size
+  -- "each sample comes back at most its value and less than one step below it"
+  pub kept : (k n : ℕ) → k < w * h → Lies (pixel samples k) n → KeptAll (step n) (pixel samples k) (pixel out k)
+  -- "a black pixel comes back as zeros"
+  pub black : (k : ℕ) → k < w * h → peak (pixel samples k) ≡ 0 → pixel out k ≡ zeros
+  pub beyond : Beyond (3 * (w * h)) lent out
+
+-- the same for a frame of four-byte pixels, of which nothing is lost: each comes back as what its bytes stand for
+pub record ReadBack4 (w h size : ℕ) (px : List ℕ) (lent : List Float) (answer : Answer Head) (out : List Float) : Type 0 where
+  pub answered : answer ≡ doneWith w h size
+  pub pixels : (k : ℕ) → k < w * h → pixel out k ≡ cratePixel (rgbeAt px (4 * k))
+  pub beyond : Beyond (3 * (w * h)) lent out
+
+-- where rows of w are flat, none of n pixels starts 1, 1, 1, which would be taken for a repeat
+abbrev pub NoOnes : List ℕ → ℕ → ℕ → Type 0
+NoOnes px w n = isCoded w ≡ false → (k : ℕ) → k < n → isRepeat px (4 * k) ≡ false
+
+-- ---- The claims, over the definitions: the reader on the file that is written, with any bytes after it
+
+abbrev pub ComesBack : ℕ → ℕ → List Float → Type 0
+ComesBack w h samples =
+    (rest : List ℕ) (widest highest : ℕ) (out : List Float) (store : List ℕ) → Enough w h widest highest out store
+    → let left = readBy crateRow cratePixel (fileOf samples w h ++ rest) widest highest out store in
+    ReadBack w h (length (fileOf samples w h)) samples out (left .0) (left .1)
+
+abbrev pub ComesBack4 : ℕ → ℕ → List ℕ → Type 0
+ComesBack4 w h px =
+    (rest : List ℕ) (widest highest : ℕ) (out : List Float) (store : List ℕ) → Enough w h widest highest out store
+    → let left = readBy crateRow cratePixel (frameOf px w h ++ rest) widest highest out store in
+    ReadBack4 w h (length (frameOf px w h)) px out (left .0) (left .1)
+
+-- ---- The claims, over the calls: a call of the writer was done and left n bytes in its output, and the reader is called on them, with any bytes after
+
+abbrev pub CallsComeBack : ℕ → ℕ → List Float → Type 0
+CallsComeBack w h samples =
+    (lent left : List ℕ) (n : ℕ) → WritePromise w h samples lent (Done n) left
+    → (rest : List ℕ) (widest highest : ℕ) (out out′ : List Float) (store store′ : List ℕ) (answer : ReadAnswer) → Enough w h widest highest out store
+    → ReadPromise (take n left ++ rest) widest highest out store answer out′ store′
+    → ReadBack w h n samples out (paperOf answer) out′
+
+abbrev pub CallsComeBack4 : ℕ → ℕ → List ℕ → Type 0
+CallsComeBack4 w h px =
+    (lent left : List ℕ) (n : ℕ) → Write4Promise w h px lent (Done n) left
+    → (rest : List ℕ) (widest highest : ℕ) (out out′ : List Float) (store store′ : List ℕ) (answer : ReadAnswer) → Enough w h widest highest out store
+    → ReadPromise (take n left ++ rest) widest highest out store answer out′ store′
+    → ReadBack4 w h n px out (paperOf answer) out′
+
+-- ---- A frame in range is written: into every output that is long enough
+
+abbrev pub IsWritten : ℕ → ℕ → List Float → Type 0
+IsWritten w h samples = (out : List ℕ) → length (fileOf samples w h) ≤ length out → writeOf w h samples out ≡ (done (length (fileOf samples w h)), spread 1 out 0 (fileOf samples w h))
