@@ -1,2 +1,7 @@
 -- The theorems over the definitions in `specs/`, a file for each of its files.
 pub mod Skies
+pub mod RadianceValues
+pub mod RadianceComponent
+pub mod RadianceRows
+pub mod RadianceFlat
+pub mod RadianceApart

@@ -25,7 +25,7 @@ use Rattle.runs.proofs.Laws.Weave.{bytes-four, weave, mark-covered}
 
 -- ---- a row of four channels
 
-coded-width : (w : ℕ) → 8 ≤ w → w ≤ 32767 → false ≡ read.isFlatWidth w
+pub coded-width : (w : ℕ) → 8 ≤ w → w ≤ 32767 → false ≡ read.isFlatWidth w
 unfolding read.isFlatWidth
 coded-width w l h = simp (le-ltb w 8 l, le-ltb 32767 w h)
 
