@@ -38,12 +38,16 @@ andThen (some z) next = next (z .0) (z .1)
 
 -- ---- "New run-length scanline (lengths 8 to 32,767)"
 
+-- "a count over 128"
+unfoldable pub isOver : ℕ → Bool
+isOver count = ltb 128 count
+
 -- "In a component a count over 128 repeats the next byte count - 128 times, a count of 1 to 128 is followed by that many bytes": what a count
 -- stands for, with the bytes behind it
 unfoldable pub span : ℕ → List ℕ → Found (List ℕ)
 span count [] = none
 span count (b ∷ bytes) =
-    pick (ltb 128 count) (some (replicate (count - 128) b, bytes))
+    pick (isOver count) (some (replicate (count - 128) b, bytes))
     (pick (ltb 0 count && leb count (length (b ∷ bytes))) (some (take count (b ∷ bytes), drop count (b ∷ bytes))) none)
 
 -- "they add up to the scanline's length exactly": n bytes from so many counts at most

@@ -10,7 +10,7 @@ use Rattle.rows.specs.Channel.{channelOf, channelTurn, isRun, spanAt, spanBytes
 use Rattle.rows.specs.Repeat.{copied, lasts, repeatOf, repeatTurn}
 use Rattle.rows.specs.Flat.{flatOf, flatTurn, fourTo, goesOn, isRepeat, pixelOf, repeated}
 use Rattle.rows.specs.Row.{channelsOf, chansTurn, isFlatWidth, isMark, kindOf, rowOf}
-use Rattle.kept.specs.Radiance.{rgbe, span, spans, components, past, coded, isOldRun, meaning, flatFrom, flat, flatBytes}
+use Rattle.kept.specs.Radiance.{rgbe, isOver, span, spans, components, past, coded, isOldRun, meaning, flatFrom, flat, flatBytes}
 
 -- ---- Old runs
 
@@ -38,23 +38,23 @@ none-before = (refl, refl)
 -- a count past the row's end
 pub past-the-end : (coded 8 (2 ∷ 2 ∷ 0 ∷ 8 ∷ 255 ∷ 128 ∷ 136 ∷ 64 ∷ 136 ∷ 32 ∷ 136 ∷ 129 ∷ []) ≡ none)
     × (rowOf (2 ∷ 2 ∷ 0 ∷ 8 ∷ 255 ∷ 128 ∷ 136 ∷ 64 ∷ 136 ∷ 32 ∷ 136 ∷ 129 ∷ []) 0 (replicate 32 0) 8 ≡ (Done 12, flatBytes (replicate 8 (rgbe 128 64 32 129))))
-unfolding coded past components spans span rowOf isFlatWidth kindOf isMark channelsOf run chansTurn channelOf channelTurn spanAt spanOf spanBytes spanTaken spanLength isRun bytesFrom spread
+unfolding coded past components spans span isOver rowOf isFlatWidth kindOf isMark channelsOf run chansTurn channelOf channelTurn spanAt spanOf spanBytes spanTaken spanLength isRun bytesFrom spread
 past-the-end = (refl, refl)
 
 -- a count of 0
 pub count-zero : (coded 8 (2 ∷ 2 ∷ 0 ∷ 8 ∷ 0 ∷ 136 ∷ 128 ∷ 136 ∷ 64 ∷ 136 ∷ 32 ∷ 136 ∷ 129 ∷ []) ≡ none)
     × (rowOf (2 ∷ 2 ∷ 0 ∷ 8 ∷ 0 ∷ 136 ∷ 128 ∷ 136 ∷ 64 ∷ 136 ∷ 32 ∷ 136 ∷ 129 ∷ []) 0 (replicate 32 0) 8 ≡ (Done 13, flatBytes (replicate 8 (rgbe 128 64 32 129))))
-unfolding coded past components spans span rowOf isFlatWidth kindOf isMark channelsOf run chansTurn channelOf channelTurn spanAt spanOf spanBytes spanTaken spanLength isRun bytesFrom spread
+unfolding coded past components spans span isOver rowOf isFlatWidth kindOf isMark channelsOf run chansTurn channelOf channelTurn spanAt spanOf spanBytes spanTaken spanLength isRun bytesFrom spread
 count-zero = (refl, refl)
 
 -- another length in the mark
 pub other-length : (coded 8 (2 ∷ 2 ∷ 0 ∷ 1 ∷ 136 ∷ 128 ∷ 136 ∷ 64 ∷ 136 ∷ 32 ∷ 136 ∷ 129 ∷ []) ≡ none)
     × (rowOf (2 ∷ 2 ∷ 0 ∷ 1 ∷ 136 ∷ 128 ∷ 136 ∷ 64 ∷ 136 ∷ 32 ∷ 136 ∷ 129 ∷ []) 0 (replicate 32 0) 8 ≡ (Done 12, flatBytes (replicate 8 (rgbe 128 64 32 129))))
-unfolding coded past components spans span rowOf isFlatWidth kindOf isMark channelsOf run chansTurn channelOf channelTurn spanAt spanOf spanBytes spanTaken spanLength isRun bytesFrom spread
+unfolding coded past components spans span isOver rowOf isFlatWidth kindOf isMark channelsOf run chansTurn channelOf channelTurn spanAt spanOf spanBytes spanTaken spanLength isRun bytesFrom spread
 other-length = (refl, refl)
 
 -- a missing byte
 pub missing-byte : (coded 8 (2 ∷ 2 ∷ 0 ∷ 8 ∷ 136 ∷ 128 ∷ 136 ∷ 64 ∷ 136 ∷ 32 ∷ 136 ∷ []) ≡ none)
     × (rowOf (2 ∷ 2 ∷ 0 ∷ 8 ∷ 136 ∷ 128 ∷ 136 ∷ 64 ∷ 136 ∷ 32 ∷ 136 ∷ []) 0 (replicate 32 0) 8 ≡ (Done 11, flatBytes (replicate 8 (rgbe 128 64 32 0))))
-unfolding coded past components spans span rowOf isFlatWidth kindOf isMark channelsOf run chansTurn channelOf channelTurn spanAt spanOf spanBytes spanTaken spanLength isRun bytesFrom spread
+unfolding coded past components spans span isOver rowOf isFlatWidth kindOf isMark channelsOf run chansTurn channelOf channelTurn spanAt spanOf spanBytes spanTaken spanLength isRun bytesFrom spread
 missing-byte = (refl, refl)

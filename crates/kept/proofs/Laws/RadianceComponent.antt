@@ -12,7 +12,7 @@ use Rattle.steps.specs.Loop.{pick}
 use Rattle.steps.proofs.Laws.Turns.{and-left, and-right, by-test}
 use Rattle.rows.specs.declared.Taken.{Taken}
 use Rattle.runs.proofs.Laws.ChannelBack.{Reads, reads-none, reads-both, reads-run, reads-packet, ReadAs, read-as}
-use Rattle.kept.specs.Radiance.{Found, after, andThen, span, spans, component}
+use Rattle.kept.specs.Radiance.{Found, after, andThen, isOver, span, spans, component}
 
 -- ---- What was found tells what it was found from
 
@@ -38,6 +38,14 @@ pub record Stands (bytes xs rest : List ℕ) : Type 0 where
   pub there : bytes ≡ front ++ rest
   pub reads : (w : ℕ) (src : List ℕ) (k : ℕ) (a : Taken × List ℕ) → Reads src k w a front xs
 
+over : (c : ℕ) → isOver c ≡ true → 128 < c
+unfolding isOver
+over c e = let h = ltb-true _ c e in omega arith
+
+not-over : (c : ℕ) → isOver c ≡ false → c ≤ 128
+unfolding isOver
+not-over c e = let h = ltb-false _ c e in omega arith
+
 run-stands : (c b : ℕ) (bytes : List ℕ) → 128 < c → Stands (c ∷ b ∷ bytes) (replicate (c - 128) b) bytes
 run-stands c b bytes h =
     let is : 128 + (c - 128) ≡ c = omega arith in
@@ -60,11 +68,11 @@ span-stands : (c : ℕ) (bytes : List ℕ) (r : List ℕ × List ℕ) → span c
 unfolding span
 span-stands c [] r e = absurd (Option·none-ne-some _ e)
 span-stands c (b ∷ bytes) r e =
-    by-test Right (ltb 128 c)
-    (λ t e. subst Stood (Option·some-injective _ _ e) (run-stands c b bytes (ltb-true _ c t)))
+    by-test Right (isOver c)
+    (λ t e. subst Stood (Option·some-injective _ _ e) (run-stands c b bytes (over c t)))
     (λ t e. let both = found-if (ltb 0 c && leb c (length (b ∷ bytes))) _ r e in
     subst Stood (Option·some-injective _ _ (both .1))
-    (literals-stand c (b ∷ bytes) (ltb-true _ c (and-left (ltb 0 c) _ (both .0))) (ltb-false _ c t) (leb-true c _ (and-right (ltb 0 c) _ (both .0)))))
+    (literals-stand c (b ∷ bytes) (ltb-true _ c (and-left (ltb 0 c) _ (both .0))) (not-over c t) (leb-true c _ (and-right (ltb 0 c) _ (both .0)))))
     e
   where
     Stood : List ℕ × List ℕ → Type 0
