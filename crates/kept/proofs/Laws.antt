@@ -4,4 +4,5 @@ pub mod RadianceValues
 pub mod RadianceComponent
 pub mod RadianceRows
 pub mod RadianceFlat
+pub mod RadianceWritten
 pub mod RadianceApart
