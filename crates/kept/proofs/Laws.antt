@@ -1,4 +1,5 @@
--- The theorems over the definitions in `specs/`, a file for each of its files.
+-- The theorems over the definitions in `specs/`: the sample skies, and where document and crate agree, by values, components, rows, flat rows,
+-- written rows, and where they are apart.
 pub mod Skies
 pub mod RadianceValues
 pub mod RadianceComponent

@@ -1,25 +1,29 @@
 -- What is written is a scanline by the document: its pixels are the row's, and just its bytes are taken.
-use mathlib.Core.Bool.{Bool, true, false, _&&_}
+use mathlib.Core.Bool.{true, false}
 use mathlib.Core.List.{List, [], _∷_, _++_, append-assoc, append-nil}
 use mathlib.Core.Option.{none, some, Option·none-ne-some}
 use mathlib.Core.Path.{_≡_, refl, sym, ap, _∙_, subst}
-use Prim.Native.Nat.{ℕ, zero, suc, _+_, _-_, _*_, _/_, _%_, _≤_, _<_}
-use native.Mathlib.Nat.{add-zero, zero-add}
+use Prim.Native.Nat.{ℕ, zero, suc, _+_, _-_, _*_, _≤_}
+use native.Mathlib.Nat.{zero-add}
 use native.Mathlib.Omega.{arith}
 use borrow.Author.Tests.{lt-ltb, le-ltb, le-leb, leb-true, eq-eqb}
-use lib.Dec.{leb, eqb}
-use lib.ListN.{length, take, drop, replicate, length-append, length-replicate}
+use lib.Dec.{leb}
+use lib.ListN.{length, getD, take, drop, replicate, length-append, length-replicate}
 use lib.Seq.{take-append-seam, drop-append-seam}
 use Rattle.steps.specs.Loop.{pick}
 use Rattle.steps.specs.Place.{bytesFrom}
 use Rattle.pixel.specs.declared.Rgbe.{Rgbe}
 use Rattle.runs.specs.Channel.{packet, code}
-use Rattle.runs.specs.Row.{isCoded, channel, codedRow}
+use Rattle.rows.specs.Flat.{isRepeat}
+use Rattle.rows.proofs.Laws.Kept.{length-bytes}
+use Rattle.runs.specs.Row.{isCoded, channel, codedRow, rowOf}
 use Rattle.runs.proofs.Laws.Coded.{code-by}
-use Rattle.runs.proofs.Laws.Row.{length-channel, coded-widths}
+use Rattle.runs.proofs.Laws.Row.{length-channel, row-coded, row-flat}
+use Rattle.runs.proofs.Laws.RowBack.{NoRepeat}
 use Rattle.runs.proofs.Laws.Weave.{bytes-four}
-use Rattle.kept.specs.Radiance.{Found, after, andThen, isOver, span, spans, component, pixels, components, mark, past, coded, flatBytes}
+use Rattle.kept.specs.Radiance.{rgbe, Found, after, andThen, isOver, span, spans, component, pixels, components, mark, past, coded, isOldRun, flat, flatBytes, NoOldRun}
 use Rattle.kept.proofs.Laws.RadianceComponent.{found-then, found-after, found-if}
+use Rattle.kept.proofs.Laws.RadianceFlat.{flat-found, length-flat}
 
 -- ---- Counts
 
@@ -101,3 +105,81 @@ code-found n xs rest s =
     ap (λ (k : ℕ). spans k k (code xs ++ rest)) size
     ∙ code-by Means means-none means-both means-run means-literals xs 0 0 rest ([], rest) refl
     ∙ ap (λ (l : List ℕ). some (l, rest)) (append-nil xs)
+
+-- ---- The pixels of a row
+
+-- the w pixels of px from place at on
+abbrev pub rowPixels : List ℕ → ℕ → ℕ → List Rgbe
+rowPixels px at w = pixels (channel px at w) (channel px (at + 1) w) (channel px (at + 2) w) (channel px (at + 3) w)
+
+pixels-next : (px : List ℕ) (at n : ℕ) → rowPixels px at (suc n) ≡ rgbe (getD px at 0) (getD px (at + 1) 0) (getD px (at + 2) 0) (getD px (at + 3) 0) ∷ rowPixels px (at + 4) n
+pixels-next px at n =
+    let one : at + 1 + 4 ≡ at + 4 + 1 = omega arith in
+    let two : at + 2 + 4 ≡ at + 4 + 2 = omega arith in
+    let three : at + 3 + 4 ≡ at + 4 + 3 = omega arith in
+    rw (one, two, three)
+
+-- their bytes are the row's
+pub row-bytes : (px : List ℕ) (at w : ℕ) → flatBytes (rowPixels px at w) ≡ bytesFrom px at (4 * w)
+unfolding bytesFrom
+row-bytes px at zero = refl
+row-bytes px at (suc n) =
+    let two : at + 2 ≡ at + 1 + 1 = omega arith in
+    let three : at + 3 ≡ at + 1 + 1 + 1 = omega arith in
+    let four : bytesFrom px at 4 ≡ getD px at 0 ∷ getD px (at + 1) 0 ∷ getD px (at + 2) 0 ∷ getD px (at + 3) 0 ∷ [] = rw (two, three) in
+    ap flatBytes (pixels-next px at n)
+    ∙ ap (λ (l : List ℕ). getD px at 0 ∷ getD px (at + 1) 0 ∷ getD px (at + 2) 0 ∷ getD px (at + 3) 0 ∷ l) (row-bytes px (at + 4) n)
+    ∙ ap (λ (l : List ℕ). l ++ bytesFrom px (at + 4) (4 * n)) (sym four)
+    ∙ sym (bytes-four px at n)
+
+-- ---- A coded row
+
+past-found : (xs bytes : List ℕ) → past xs (xs ++ bytes) ≡ some (tt, bytes)
+unfolding past
+past-found [] bytes = refl
+past-found (x ∷ xs) bytes = simp (eq-eqb x x refl) (past-found xs bytes)
+
+-- the bytes c are a component of n bytes, xs, whatever follows
+abbrev IsComponent : ℕ → List ℕ → List ℕ → Type 0
+IsComponent n c xs = (rest : List ℕ) → component n (c ++ rest) ≡ some (xs, rest)
+
+components-found : (n : ℕ) (rs gs bs es c0 c1 c2 c3 rest : List ℕ) → IsComponent n c0 rs → IsComponent n c1 gs → IsComponent n c2 bs → IsComponent n c3 es
+    → components n (c0 ++ (c1 ++ (c2 ++ (c3 ++ rest)))) ≡ some (pixels rs gs bs es, rest)
+unfolding components
+components-found n rs gs bs es c0 c1 c2 c3 rest f0 f1 f2 f3 = rw (f0 (c1 ++ (c2 ++ (c3 ++ rest))), f1 (c2 ++ (c3 ++ rest)), f2 (c3 ++ rest), f3 rest)
+
+coded-found : (px : List ℕ) (at w : ℕ) (rest : List ℕ) → isCoded w ≡ true → coded w (codedRow px at w ++ rest) ≡ some (rowPixels px at w, rest)
+unfolding coded codedRow isCoded
+coded-found px at w rest t =
+    let c : ℕ → List ℕ = λ i. code (channel px i w) in
+    let is : (i : ℕ) → IsComponent w (c i) (channel px i w) = λ i l. code-found w (channel px i w) l (length-channel px i w) in
+    let body : List ℕ = c at ++ (c (at + 1) ++ (c (at + 2) ++ (c (at + 3) ++ rest))) in
+    let there : codedRow px at w ++ rest ≡ mark w ++ body = simp append-assoc in
+    simp t
+    (ap (λ (l : List ℕ). andThen (past (mark w) l) (λ found more. components w more)) there
+    ∙ ap (λ (z : Found (Unit {0})). andThen z (λ found more. components w more)) (past-found (mark w) body)
+    ∙ components-found w (channel px at w) (channel px (at + 1) w) (channel px (at + 2) w) (channel px (at + 3) w) (c at) (c (at + 1)) (c (at + 2)) (c (at + 3)) rest (is at) (is (at + 1)) (is (at + 2)) (is (at + 3)))
+
+-- a row written at widths 8 to 32,767 is the new run-length scanline of its pixels
+pub coded-written : (px : List ℕ) (at w : ℕ) (rest : List ℕ) → isCoded w ≡ true → coded w (rowOf px at w ++ rest) ≡ some (rowPixels px at w, rest)
+coded-written px at w rest t = ap (λ (l : List ℕ). coded w (l ++ rest)) (row-coded px at w t) ∙ coded-found px at w rest t
+
+-- ---- A flat row
+
+no-old-run : (px : List ℕ) (at w : ℕ) → NoRepeat px at w → NoOldRun (rowPixels px at w)
+unfolding isRepeat isOldRun
+no-old-run px at zero plain = tt
+no-old-run px at (suc n) plain =
+    let first : at + 4 * 0 ≡ at = omega arith in
+    let next : (i : ℕ) → at + 4 * suc i ≡ at + 4 + 4 * i = λ i. omega arith in
+    subst NoOldRun (sym (pixels-next px at n))
+    (ap (isRepeat px) (sym first) ∙ plain 0 (omega arith), no-old-run px (at + 4) n (λ i h. ap (isRepeat px) (sym (next i)) ∙ plain (suc i) (omega arith)))
+
+-- a row written at other widths is the flat scanline of its pixels, if none is a 1,1,1,n
+pub flat-written : (px : List ℕ) (at w : ℕ) (rest : List ℕ) → isCoded w ≡ false → NoRepeat px at w → flat w (rowOf px at w ++ rest) ≡ some (rowPixels px at w, rest)
+flat-written px at w rest t plain =
+    let qs : List Rgbe = rowPixels px at w in
+    let size : w ≡ length qs = omega (arith, length-flat qs, ap length (row-bytes px at w), length-bytes px at (4 * w)) in
+    ap (λ (l : List ℕ). flat w (l ++ rest)) (row-flat px at w t ∙ sym (row-bytes px at w))
+    ∙ ap (λ (n : ℕ). flat n (flatBytes qs ++ rest)) size
+    ∙ flat-found qs rest (no-old-run px at w plain)
