@@ -1,4 +1,4 @@
--- Where the document and the crate differ: the smallest inputs, each computed by both definitions.
+-- Where the document and the crate differ: small inputs, each computed by both definitions.
 use mathlib.Core.List.{[], _∷_}
 use mathlib.Core.Option.{none, some}
 use mathlib.Core.Path.{_≡_, refl}

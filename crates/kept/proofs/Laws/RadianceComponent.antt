@@ -7,7 +7,7 @@ use Prim.Native.Nat.{ℕ, zero, suc, _+_, _-_, _≤_, _<_}
 use native.Mathlib.Omega.{arith}
 use borrow.Author.Tests.{ltb-true, ltb-false, leb-true}
 use lib.Dec.{ltb, leb}
-use lib.ListN.{length, take, drop, replicate, length-append, length-take, take-append-drop}
+use lib.ListN.{length, take, drop, replicate, length-append, length-replicate, length-take, take-append-drop}
 use Rattle.steps.specs.Loop.{pick}
 use Rattle.steps.proofs.Laws.Turns.{and-left, and-right, by-test}
 use Rattle.rows.specs.declared.Taken.{Taken}
@@ -109,6 +109,45 @@ spans-stand (suc counts) (suc n) (c ∷ bytes) r e =
     let size : length (xs ++ ys) ≡ suc n = omega (arith, length-append xs ys, rest .1, leb-true (length xs) _ (fits .0)) in
     subst (λ (z : List ℕ × List ℕ). Stands (c ∷ bytes) (z .0) (z .1) × (length (z .0) ≡ suc n)) (others .2)
     (stands-both (c ∷ bytes) xs more ys (others .0 .1) (span-stands c bytes (one .0) (one .1)) (rest .0), size)
+
+-- ---- How many counts
+
+-- a count stands for one byte at least
+span-some : (c : ℕ) (bytes : List ℕ) (r : List ℕ × List ℕ) → span c bytes ≡ some r → 1 ≤ length (r .0)
+unfolding span
+span-some c [] r e = absurd (Option·none-ne-some _ e)
+span-some c (b ∷ bytes) r e =
+    by-test (λ (z : Found (List ℕ)). z ≡ some r → 1 ≤ length (r .0)) (isOver c)
+    (λ t e.
+    let same : length (replicate (c - 128) b) ≡ length (r .0) = ap size (Option·some-injective _ _ e) in
+    omega (arith, length-replicate (c - 128) b, over c t))
+    (λ t e.
+    let both = found-if (ltb 0 c && leb c (length (b ∷ bytes))) _ r e in
+    let same : length (take c (b ∷ bytes)) ≡ length (r .0) = ap size (Option·some-injective _ _ (both .1)) in
+    let some-there = ltb-true _ c (and-left (ltb 0 c) _ (both .0)) in
+    omega (arith, length-take c (b ∷ bytes)))
+    e
+  where
+    size : List ℕ × List ℕ → ℕ
+    size z = length (z .0)
+
+-- n counts are enough for n bytes: with one more nothing else is found
+pub counts-enough : (counts n : ℕ) (bytes : List ℕ) → n ≤ counts → spans (suc counts) n bytes ≡ spans counts n bytes
+unfolding spans
+counts-enough zero zero bytes h = refl
+counts-enough zero (suc n) bytes h = absurd (omega arith)
+counts-enough (suc counts) zero bytes h = refl
+counts-enough (suc counts) (suc n) [] h = refl
+counts-enough (suc counts) (suc n) (c ∷ bytes) h = go (λ m l q. counts-enough counts m l q) (span c bytes) refl
+  where
+    next : ℕ → List ℕ → List ℕ → Found (List ℕ)
+    next k xs rest = pick (leb (length xs) (suc n)) (after xs (spans k (suc n - length xs) rest)) none
+
+    go : ((m : ℕ) (l : List ℕ) → m ≤ counts → spans (suc counts) m l ≡ spans counts m l) → (z : Found (List ℕ)) → span c bytes ≡ z → andThen z (next (suc counts)) ≡ andThen z (next counts)
+    go rec none e = refl
+    go rec (some u) e =
+        let some-there = span-some c bytes u e in
+        ap (λ (l : Found (List ℕ)). pick (leb (length (u .0)) (suc n)) (after (u .0) l) none) (rec (suc n - length (u .0)) (u .1) (omega arith))
 
 -- ---- The component
 
