@@ -7,3 +7,9 @@ pub mod Frame
 pub mod Back
 pub mod Calls
 pub mod Skies
+pub mod RadianceValues
+pub mod RadianceComponent
+pub mod RadianceRows
+pub mod RadianceFlat
+pub mod RadianceWritten
+pub mod RadianceApart

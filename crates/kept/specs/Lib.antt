@@ -3,3 +3,4 @@ pub mod Longest
 pub mod Numbered
 pub mod Back
 pub mod Skies
+pub mod Radiance

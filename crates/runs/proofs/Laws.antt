@@ -10,6 +10,7 @@ pub mod Part
 pub mod Store
 pub mod Worst
 pub mod Samples
+pub mod Coded
 pub mod ChannelBack
 pub mod Weave
 pub mod RowBack
