@@ -80,7 +80,7 @@ components n bytes =
 abbrev pub mark : ℕ → List ℕ
 mark n = 2 ∷ 2 ∷ (n / 256) ∷ (n % 256) ∷ []
 
--- these bytes
+-- just these bytes, in front
 unfoldable pub past : List ℕ → List ℕ → Found (Unit {0})
 past [] bytes = some (tt, bytes)
 past (x ∷ xs) [] = none

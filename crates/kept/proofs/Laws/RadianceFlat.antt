@@ -1,5 +1,5 @@
 -- A flat scanline without a 1,1,1,n: the document and the crate read the same pixels, and take the same bytes.
-use mathlib.Core.Bool.{Bool, true, false, _&&_}
+use mathlib.Core.Bool.{true, false}
 use mathlib.Core.List.{List, [], _∷_, _++_}
 use mathlib.Core.Logic.{_⊎_, ⊎-elim}
 use mathlib.Core.Option.{Option, some}
@@ -17,6 +17,7 @@ use Rattle.rows.specs.Flat.{isRepeat, flatOf}
 use Rattle.rows.specs.Row.{isFlatWidth, isMark, rowOf}
 use Rattle.rows.proofs.Laws.Flat.{flat-starts}
 use Rattle.rows.proofs.Laws.Row.{narrow, not-narrow, mark-not, kind-flat, kind-pixel, row-by-width, row-flat, row-pixel}
+use Rattle.runs.proofs.Laws.Channel.{and-no}
 use Rattle.runs.proofs.Laws.RowBack.{NoRepeat, coded-width, flat-there}
 use Rattle.kept.specs.Radiance.{after, isOldRun, Meaning, meaning, onward, flatFrom, flat, flatBytes, NoOldRun}
 use Rattle.kept.proofs.Laws.RadianceRows.{RowReads, all-bytes, behind}
@@ -78,10 +79,6 @@ part-there src at store start qs rest none e =
 -- both read the pixels qs, and rest follows
 abbrev pub BothRead : List ℕ → ℕ → List ℕ → List Rgbe → List ℕ → Type 0
 BothRead src at store qs rest = (flat (length qs) (drop at src) ≡ some (qs, rest)) × RowReads src at store (length qs) qs rest
-
-and-no : (b : Bool) → (b && false) ≡ false
-and-no true = refl
-and-no false = refl
 
 no-mark : (second third : ℕ) → (second ≡ 2 → ⊥) ⊎ (128 ≤ third) → isMark second third ≡ false
 unfolding isMark

@@ -37,11 +37,11 @@ channel-behind : (a b c d : ℕ) (px : List ℕ) (at n : ℕ) → channel (a ∷
 channel-behind a b c d px at zero = refl
 channel-behind a b c d px at (suc n) = rw (behind a b c d px at (at + 4) refl) (ap (λ (l : List ℕ). getD px at 0 ∷ l) (channel-behind a b c d px (at + 4) n))
 
--- the channels of these bytes
+-- px has n pixels, whose bytes are these four channels
 abbrev Channels : List ℕ → ℕ → List ℕ → List ℕ → List ℕ → List ℕ → Type 0
 Channels px n rs gs bs es = (channel px 0 n ≡ rs) × (channel px 1 n ≡ gs) × (channel px 2 n ≡ bs) × (channel px 3 n ≡ es) × (length px ≡ 4 * n)
 
-pub woven : (n : ℕ) (rs gs bs es : List ℕ) → length rs ≡ n → length gs ≡ n → length bs ≡ n → length es ≡ n → Channels (flatBytes (pixels rs gs bs es)) n rs gs bs es
+woven : (n : ℕ) (rs gs bs es : List ℕ) → length rs ≡ n → length gs ≡ n → length bs ≡ n → length es ≡ n → Channels (flatBytes (pixels rs gs bs es)) n rs gs bs es
 woven zero [] [] [] [] h0 h1 h2 h3 = (refl, refl, refl, refl, refl)
 woven zero (r ∷ rs) gs bs es h0 h1 h2 h3 = absurd (omega arith)
 woven zero [] (g ∷ gs) bs es h0 h1 h2 h3 = absurd (omega arith)

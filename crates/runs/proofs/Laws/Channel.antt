@@ -16,7 +16,7 @@ pub and-both : (a b : Bool) → a && b ≡ true → (a ≡ true) × (b ≡ true)
 and-both true b e = (refl, e)
 and-both false b e = absurd (false≢true e)
 
-and-no : (b : Bool) → b && false ≡ false
+pub and-no : (b : Bool) → b && false ≡ false
 and-no true = refl
 and-no false = refl
 
