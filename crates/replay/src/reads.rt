@@ -1,0 +1,150 @@
+// The answers of the reader.
+use crate::hex;
+use crate::lent;
+use crate::print;
+use crate::text;
+use crate::text::Number;
+use crate::text::Pair;
+use header::Head;
+use header::HeadAnswer;
+use reader::ReadAnswer;
+ghost use Prim.Native.Nat.{_≤_};
+
+// `N PLACE W H TAKEN`.
+fn put_head(page: &mut [u8; 65536], put: usize, number: u8, place: usize, head: Head) -> usize
+    requires { ⌜ put ≤ 65536 ⌝ }
+    ensures { λ r. ⌜ r ≤ 65536 ⌝ }
+{
+    let p = print::refusal(page, put, number, place);
+    let q = print::next(page, p, head.width);
+    let r = print::next(page, q, head.height);
+    print::next(page, r, head.taken)
+}
+
+// The same of a refusal.
+fn put_refused(page: &mut [u8; 65536], put: usize, number: u8, place: usize) -> usize
+    requires { ⌜ put ≤ 65536 ⌝ }
+    ensures { λ r. ⌜ r ≤ 65536 ⌝ }
+{
+    let none = Head {
+        width: 0,
+        height: 0,
+        taken: 0,
+    };
+    put_head(page, put, number, place, none)
+}
+
+// Reads a header, and puts its answer.
+fn answer_header(
+    bytes: &[u8],
+    widest: usize,
+    highest: usize,
+    page: &mut [u8; 65536],
+    put: usize,
+) -> usize
+    requires { ⌜ put ≤ 65536 ⌝ }
+    ensures { λ r. ⌜ r ≤ 65536 ⌝ }
+{
+    let answer = header::read(bytes, widest, highest);
+    match answer {
+        HeadAnswer::Read(head) => put_head(page, put, 0, 0, head),
+        HeadAnswer::Refused(refusal) => put_refused(page, put, refusal.number, refusal.place),
+    }
+}
+
+// Reads a file into the lent output by way of the lent row store, and puts its answer and both.
+fn answer_file(
+    bytes: &[u8],
+    widest: usize,
+    highest: usize,
+    out: &mut [f32],
+    store: &mut [u8],
+    page: &mut [u8; 65536],
+    put: usize,
+) -> usize
+    requires { ⌜ put ≤ 65536 ⌝ }
+    ensures { λ r. ⌜ r ≤ 65536 ⌝ }
+{
+    lent::fill_samples(out);
+    lent::fill_bytes(store);
+    let answer = reader::read(bytes, widest, highest, out, store);
+    let p = put_read(page, put, answer);
+    let q = print::samples(page, p, out);
+    print::bytes(page, q, store)
+}
+
+// What reading a file answers.
+fn put_read(page: &mut [u8; 65536], put: usize, answer: ReadAnswer) -> usize
+    requires { ⌜ put ≤ 65536 ⌝ }
+    ensures { λ r. ⌜ r ≤ 65536 ⌝ }
+{
+    match answer {
+        ReadAnswer::Done(head) => put_head(page, put, 0, 0, head),
+        ReadAnswer::Refused(refusal) => put_refused(page, put, refusal.number, refusal.place),
+    }
+}
+
+// `head MAXW MAXH BYTES`, the last field from `at` on.
+pub(crate) fn head(
+    line: &[u8],
+    at: usize,
+    widest: usize,
+    highest: usize,
+    bytes: &mut [u8],
+    page: &mut [u8; 65536],
+    put: usize,
+) -> usize
+    requires { ⌜ put ≤ 65536 ⌝ }
+    ensures { λ r. ⌜ r ≤ 65536 ⌝ }
+{
+    let count = hex::bytes_at(line, at, bytes);
+    match count {
+        Number::Is(n) => answer_header(&bytes[..n], widest, highest, page, put),
+        Number::Missing => print::unknown(page, put),
+    }
+}
+
+// `read MAXW MAXH OUTLEN STORELEN BYTES`, the fields from OUTLEN on from `at` on.
+pub(crate) fn read(
+    line: &[u8],
+    at: usize,
+    widest: usize,
+    highest: usize,
+    bytes: &mut [u8],
+    samples: &mut [f32],
+    lent: &mut [u8],
+    page: &mut [u8; 65536],
+    put: usize,
+) -> usize
+    requires { ⌜ put ≤ 65536 ⌝ }
+    ensures { λ r. ⌜ r ≤ 65536 ⌝ }
+{
+    let lengths = text::pair_at(line, at);
+    let Pair::Both {
+        a: room,
+        b: kept,
+        next,
+    } = lengths
+    else {
+        return print::unknown(page, put);
+    };
+    if samples.len() < room {
+        return print::unknown(page, put);
+    }
+    if lent.len() < kept {
+        return print::unknown(page, put);
+    }
+    let count = hex::bytes_at(line, next, bytes);
+    match count {
+        Number::Is(n) => answer_file(
+            &bytes[..n],
+            widest,
+            highest,
+            &mut samples[..room],
+            &mut lent[..kept],
+            page,
+            put,
+        ),
+        Number::Missing => print::unknown(page, put),
+    }
+}
