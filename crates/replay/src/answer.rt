@@ -1,12 +1,12 @@
 // One line, answered.
+use crate::names;
+use crate::names::Name;
 use crate::print;
 use crate::reads;
-use crate::text;
-use crate::text::Name;
-use crate::text::Pair;
 use crate::writes;
+use fields::text;
+use fields::text::Pair;
 ghost use Prim.Native.Nat.{_≤_};
-ghost use lib.ListN.{length};
 
 // Puts the answer to a line.
 pub(crate) fn line(
@@ -21,7 +21,7 @@ pub(crate) fn line(
     ensures { λ r. ⌜ r ≤ 65536 ⌝ }
 {
     let end = text::field_end(line, 0);
-    let name = text::name_of(&line[0..end]);
+    let name = names::name_of(&line[0..end]);
     let pair = text::pair_at(line, end + 1);
     let Pair::Both { a, b, next } = pair else {
         return print::unknown(page, put);

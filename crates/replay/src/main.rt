@@ -1,11 +1,9 @@
 // Answers the lines of standard input, each by one line.
 mod answer;
-mod hex;
-mod lent;
 mod lines;
+mod names;
 mod print;
 mod reads;
-mod text;
 mod writes;
 
 // What the program holds: a line of 1,048,575 bytes, and whatever such a line can write.

@@ -1,10 +1,10 @@
 // The answers of the reader.
-use crate::hex;
-use crate::lent;
 use crate::print;
-use crate::text;
-use crate::text::Number;
-use crate::text::Pair;
+use fields::hex;
+use fields::lent;
+use fields::text;
+use fields::text::Number;
+use fields::text::Pair;
 use header::Head;
 use header::HeadAnswer;
 use reader::ReadAnswer;

@@ -1,14 +1,13 @@
 // The answers of the writer.
-use crate::hex;
-use crate::lent;
 use crate::print;
-use crate::text;
-use crate::text::Number;
-use crate::text::Step;
+use fields::hex;
+use fields::lent;
+use fields::text;
+use fields::text::Number;
+use fields::text::Step;
 use steps::amount::Amount;
 use writer::WriteAnswer;
 ghost use Prim.Native.Nat.{_≤_};
-ghost use lib.ListN.{length};
 
 // A number, or `none`.
 fn put_amount(page: &mut [u8; 65536], put: usize, amount: Amount) -> usize

@@ -1,15 +1,15 @@
 -- No written frame is longer than the worst length, and at each width and height some frame reaches it.
 use Prim.Native.Nat.{ℕ, _*_, _<_, _≤_}
 use mathlib.Core.Bool.{Bool, true, false}
-use mathlib.Core.List.{List, [], _∷_}
+use mathlib.Core.List.{List}
 use mathlib.Core.Logic.{_⊎_}
-use mathlib.Core.Path.{_≡_, subst}
-use native.Mathlib.Omega.{arith}
+use mathlib.Core.Path.{_≡_, sym, subst}
 use lib.ListN.{length}
 use lib.Dec.{ltb}
 use lib.Ieee.{Float}
 use Rattle.steps.specs.Loop.{pick}
-use Rattle.steps.specs.Answer.{Answer, done, refused, refuse, Check, check, checked}
+use Rattle.steps.specs.Answer.{Answer, done, refused, refuse, Check, checked}
+use Rattle.steps.proofs.Laws.Answer.{differ, passed-by}
 use Rattle.writer.proofs.Laws.Frame.{frame-worst}
 use Rattle.writer.proofs.Laws.Worst.{worst-flat-frame, worst-coded-frame}
 use Rattle.writer.specs.Samples.{packed, firstBright}
@@ -27,23 +27,17 @@ worst-coded w h l g = worst-coded-frame w h l g
 
 -- ---- No frame is longer
 
--- no refusal can be taken for a length
-differ : (n m p : ℕ) → _≡_ {A = Answer ℕ} (refused m p) (done n) → ⊥
-differ n m p e = let z : _≡_ {A = ℕ} 0 1 = cc in omega arith
-
 -- what is answered past the checks is the frame's own length
 bright-done : (samples : List Float) (k n : ℕ) (rest : Answer ℕ) → brightChecked (λ a. a) samples k rest ≡ done n → rest ≡ done n
 unfolding brightChecked
 bright-done samples k n rest e = by (ltb (firstBright samples 0 k) k) e
   where
     by : (t : Bool) → pick t (refused 12 (firstBright samples 0 k)) rest ≡ done n → rest ≡ done n
-    by true f = absurd (differ n 12 (firstBright samples 0 k) f)
+    by true f = absurd (differ n 12 (firstBright samples 0 k) (sym f))
     by false f = f
 
 checked-done : (checks : List Check) (n : ℕ) (rest : Answer ℕ) → checked refuse checks rest ≡ done n → rest ≡ done n
-checked-done [] n rest e = e
-checked-done (check number true ∷ checks) n rest e = absurd (differ n number 0 e)
-checked-done (check number false ∷ checks) n rest e = checked-done checks n rest e
+checked-done checks n rest e = passed-by refuse checks rest (done n) (λ m k. differ n m 0 (sym k)) e .1
 
 is-length : (n m : ℕ) → _≡_ {A = Answer ℕ} (done m) (done n) → m ≡ n
 is-length n m e = cc

@@ -1,6 +1,6 @@
 -- `replay::print::pattern` meets its contract: what equals itself is a number.
 use borrow.Author.Needs.{needs}
-use Rattle.replay.proofs.Laws.Hex.{self-number, no-pattern}
+use Rattle.fields.proofs.Laws.Hex.{self-number, no-pattern}
 use Rattle.replay.proofs.print.pattern.Statement.{statement}
 use Rattle.replay.proofs.print.pattern.Tie as tie
 

@@ -1,0 +1,43 @@
+-- Fields: parts of a line, separated by one space.
+use Prim.Native.Nat.{ℕ, _+_}
+use mathlib.Core.List.{List, [], _∷_}
+use lib.ListN.{length, drop}
+use lib.Dec.{eqb, leb}
+use Rattle.steps.specs.Loop.{pick}
+use Rattle.fields.specs.Numerals.{numberOf}
+use Rattle.fields.specs.declared.text.Number.{Number}
+use Rattle.fields.specs.declared.text.Number.the-variants.{Is, Missing}
+use Rattle.fields.specs.declared.text.Step.{Step}
+use Rattle.fields.specs.declared.text.Step.the-variants.{Found, Nothing}
+use Rattle.fields.specs.declared.text.Pair.{Pair}
+use Rattle.fields.specs.declared.text.Pair.the-variants.{Both, Fewer}
+
+-- the bytes up to the first space, or to the end
+unfoldable pub field : List ℕ → List ℕ
+field [] = []
+field (b ∷ bs) = pick (eqb b 32) [] (b ∷ field bs)
+
+-- the place where the field from `at` on ends
+abbrev pub fieldEnd : List ℕ → ℕ → ℕ
+fieldEnd line at = at + length (field (drop at line))
+
+-- a number, with the place after its field and the field's space
+abbrev pub stepOf : Number → ℕ → Step
+stepOf (Is n) next = Found n next
+stepOf Missing next = Nothing
+
+-- the number in the field from `at` on; past the line's end there is no field
+unfoldable pub numberAt : List ℕ → ℕ → Step
+numberAt line at = pick (leb at (length line)) (stepOf (numberOf (field (drop at line))) (fieldEnd line at + 1)) Nothing
+
+abbrev pub secondOf : ℕ → Step → Pair
+secondOf a (Found b next) = Both a b next
+secondOf a Nothing = Fewer
+
+abbrev pub firstOf : List ℕ → Step → Pair
+firstOf line (Found a p) = secondOf a (numberAt line p)
+firstOf line Nothing = Fewer
+
+-- the numbers in the two fields from `at` on
+abbrev pub pairAt : List ℕ → ℕ → Pair
+pairAt line at = firstOf line (numberAt line at)

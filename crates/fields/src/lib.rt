@@ -1,0 +1,4 @@
+// The fields of a replay line, and buffers as they are lent.
+pub mod hex;
+pub mod lent;
+pub mod text;
