@@ -1,5 +1,4 @@
--- The laws of the definitions in `specs/`: a channel, its cut, a row, the scan, the stores, the worst row, the samples, and that
--- the reader reads back what is written.
+-- The laws of the definitions in `specs/`: a channel, its cut, a row, the scan, the stores, the worst row, and the samples.
 pub mod Channel
 pub mod Cut
 pub mod Gather
@@ -10,7 +9,3 @@ pub mod Part
 pub mod Store
 pub mod Worst
 pub mod Samples
-pub mod Coded
-pub mod ChannelBack
-pub mod Weave
-pub mod RowBack

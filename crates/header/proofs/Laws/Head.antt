@@ -7,7 +7,7 @@ use native.Mathlib.Omega.{arith}
 use borrow.Author.Tests.{lt-ltb, le-ltb, ltb-false}
 use Rattle.steps.specs.Loop.{pick}
 use Rattle.steps.specs.Answer.{Answer, refuse, done}
-use Rattle.steps.proofs.Laws.Answer.{passed}
+use Rattle.steps.proofs.Laws.Answer.{passed, callOf, one-answer}
 use Rattle.header.specs.Lines.{lineFeed, space, past, between, firstLine, isFirst, linesEnd}
 use Rattle.header.specs.Fields.{Fields, trim, fieldsAt, axesOf}
 use Rattle.header.specs.Sizes.{sizeOf, isSize, sizeAnswer}
@@ -123,11 +123,12 @@ module _ (bytes : List ℕ) (widest highest at : ℕ) (ea : at ≡ past lineFeed
 
 -- ---- One answer
 
+call-same : (a : HeadAnswer) → callOf Read Refused (paperOf a) ≡ a
+call-same (Read x) = refl
+call-same (Refused refusal) = refl
+
 by-paper : (a b : HeadAnswer) → paperOf a ≡ paperOf b → a ≡ b
-by-paper (Read x) (Read y) e = let same : x ≡ y = cc in rw same
-by-paper (Read x) (Refused s) e = absurd (let z : _≡_ {A = ℕ} 0 1 = cc in omega arith)
-by-paper (Refused r) (Read y) e = absurd (let z : _≡_ {A = ℕ} 0 1 = cc in omega arith)
-by-paper (Refused r) (Refused s) e = let n : r .number ≡ s .number = cc in let p : r .place ≡ s .place = cc in λ i. Refused (record { number = n i; place = p i })
+by-paper = one-answer Read Refused paperOf call-same
 
 pub header-once : (bytes : List ℕ) (widest highest : ℕ) (a b : HeadAnswer) → HeaderPromise bytes widest highest a → HeaderPromise bytes widest highest b → a ≡ b
 header-once bytes widest highest a b p q = by-paper a b (p ∙ sym q)

@@ -20,7 +20,7 @@ use Rattle.rows.specs.Flat.{isRepeat}
 use Rattle.rows.specs.Row as read
 use Rattle.rows.specs.declared.Taken.{Taken}
 use Rattle.runs.specs.Row.{isCoded, rowOf}
-use Rattle.runs.proofs.Laws.RowBack.{NoRepeat, row-back}
+use Rattle.back.proofs.Laws.Row.{NoRepeat, row-back}
 use Rattle.reader.specs.Samples.{samplesFrom}
 use Rattle.reader.specs.Frame as reader
 use Rattle.reader.specs.Read.{answerOf, outcomeOf, crateRow, cratePixel, framed, readBy}

@@ -1,29 +1,41 @@
 -- No written frame is longer than the worst length, and at each width and height some frame reaches it.
-use Prim.Native.Nat.{ℕ, _*_, _<_, _≤_}
+use Prim.Native.Nat.{ℕ, _+_, _*_, _<_, _≤_}
 use mathlib.Core.Bool.{Bool, true, false}
 use mathlib.Core.List.{List}
-use mathlib.Core.Logic.{_⊎_}
-use mathlib.Core.Path.{_≡_, sym, subst}
+use mathlib.Core.Logic.{_⊎_, ⊎-elim}
+use mathlib.Core.Path.{_≡_, refl, sym, ap, subst, _∙_}
+use native.Mathlib.Nat.{mul-comm, mul-assoc}
+use native.Mathlib.Omega.{arith}
+use borrow.Author.Tests.{le-leb, lt-leb}
 use lib.ListN.{length}
-use lib.Dec.{ltb}
+use lib.Dec.{ltb, leb}
 use lib.Ieee.{Float}
 use Rattle.steps.specs.Loop.{pick}
+use Rattle.steps.specs.Place.{spread}
 use Rattle.steps.specs.Answer.{Answer, done, refused, refuse, Check, checked}
 use Rattle.steps.proofs.Laws.Answer.{differ, passed-by}
+use Rattle.header.specs.Written.{written}
+use Rattle.runs.specs.Row.{isCoded, worstRow}
+use Rattle.runs.proofs.Laws.Channel.{and-no}
 use Rattle.writer.proofs.Laws.Frame.{frame-worst}
-use Rattle.writer.proofs.Laws.Worst.{worst-flat-frame, worst-coded-frame}
+use Rattle.writer.proofs.Laws.Write.{stored-fits}
 use Rattle.writer.specs.Samples.{packed, firstBright}
-use Rattle.writer.specs.Frame.{worstOf}
-use Rattle.writer.specs.Write.{frameChecks, brightChecked, lengthOf, length4Of}
+use Rattle.writer.specs.Frame.{frameOf, worstOf}
+use Rattle.writer.specs.Write.{frameChecks, brightChecked, stored, lengthOf, length4Of}
 use Rattle.kept.specs.Longest.{flatWorst, codedWorst}
 
 -- ---- The worst length is the mission's
 
 pub worst-flat : (w h : ℕ) → (w ≤ 7) ⊎ (32767 < w) → worstOf w h ≡ flatWorst w h
-worst-flat w h k = worst-flat-frame w h k
+unfolding worstOf worstRow isCoded
+worst-flat w h k =
+    let flat : isCoded w ≡ false = ⊎-elim (λ l. simp (lt-leb 8 w (omega arith))) (λ l. simp (lt-leb w 32767 l) (and-no (leb 8 w))) k in
+    let area : h * (4 * w) ≡ 4 * (w * h) = mul-comm h (4 * w) ∙ mul-assoc 4 w h in
+    simp flat (ap (λ (n : ℕ). length (written w h) + n) area)
 
 pub worst-coded : (w h : ℕ) → 8 ≤ w → w ≤ 32767 → worstOf w h ≡ codedWorst w h
-worst-coded w h l g = worst-coded-frame w h l g
+unfolding worstOf worstRow isCoded
+worst-coded w h l g = simp (le-leb 8 w l, le-leb w 32767 g)
 
 -- ---- No frame is longer
 
@@ -53,3 +65,9 @@ never-longer w h samples n e =
 pub never-longer-4 : (w h : ℕ) (px : List ℕ) (n : ℕ) → length4Of w h px ≡ done n → n ≤ worstOf w h
 unfolding length4Of
 never-longer-4 w h px n e = subst (λ (m : ℕ). m ≤ worstOf w h) (is-length n _ (checked-done (frameChecks w h (length px) 4) n _ e)) (frame-worst px w h)
+
+-- ---- Where the output holds the worst length, 13 cannot come
+
+pub worst-enough : (px : List ℕ) (w h : ℕ) (out : List ℕ) → worstOf w h ≤ length out
+    → stored (frameOf px w h) out ≡ (done (length (frameOf px w h)), spread 1 out 0 (frameOf px w h))
+worst-enough px w h out l = sym (stored-fits (frameOf px w h) out _ _ (omega (arith, frame-worst px w h)) refl refl)

@@ -11,7 +11,7 @@ use lib.ListN.{length, take, drop, replicate, length-append, length-replicate, l
 use Rattle.steps.specs.Loop.{pick}
 use Rattle.steps.proofs.Laws.Turns.{and-left, and-right, by-test}
 use Rattle.rows.specs.declared.Taken.{Taken}
-use Rattle.runs.proofs.Laws.ChannelBack.{Reads, reads-none, reads-both, reads-run, reads-packet, ReadAs, read-as}
+use Rattle.back.proofs.Laws.Channel.{Reads, reads-none, reads-both, reads-run, reads-packet, ReadAs, read-as}
 use Rattle.kept.specs.Radiance.{Found, after, andThen, isOver, span, spans, component}
 
 -- ---- What was found tells what it was found from

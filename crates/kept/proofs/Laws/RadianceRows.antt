@@ -15,8 +15,8 @@ use Rattle.pixel.specs.declared.Rgbe.{Rgbe}
 use Rattle.rows.specs.declared.Taken.the-variants.{Done}
 use Rattle.rows.specs.Row.{rowOf}
 use Rattle.runs.specs.Row.{channel}
-use Rattle.runs.proofs.Laws.ChannelBack.{ReadAs}
-use Rattle.runs.proofs.Laws.RowBack.{FourRead, marked-there}
+use Rattle.back.proofs.Laws.Channel.{ReadAs}
+use Rattle.back.proofs.Laws.Row.{FourRead, marked-there}
 use Rattle.kept.specs.Radiance.{component, pixels, components, mark, past, coded, flatBytes}
 use Rattle.kept.proofs.Laws.RadianceComponent.{found-then, found-if, component-read}
 

@@ -15,12 +15,12 @@ use Rattle.steps.specs.Place.{bytesFrom}
 use Rattle.pixel.specs.declared.Rgbe.{Rgbe}
 use Rattle.runs.specs.Channel.{packet, code}
 use Rattle.rows.specs.Flat.{isRepeat}
-use Rattle.rows.proofs.Laws.Kept.{length-bytes}
+use Rattle.steps.proofs.Laws.Place.{length-bytes}
 use Rattle.runs.specs.Row.{isCoded, channel, codedRow, rowOf}
-use Rattle.runs.proofs.Laws.Coded.{code-by}
+use Rattle.back.proofs.Laws.Coded.{code-by}
 use Rattle.runs.proofs.Laws.Row.{length-channel, row-coded, row-flat}
-use Rattle.runs.proofs.Laws.RowBack.{NoRepeat}
-use Rattle.runs.proofs.Laws.Weave.{bytes-four}
+use Rattle.back.proofs.Laws.Row.{NoRepeat}
+use Rattle.back.proofs.Laws.Weave.{bytes-four}
 use Rattle.kept.specs.Radiance.{rgbe, Found, after, andThen, isOver, span, spans, component, pixels, components, mark, past, coded, isOldRun, flat, flatBytes, NoOldRun}
 use Rattle.kept.proofs.Laws.RadianceComponent.{found-then, found-after, found-if}
 use Rattle.kept.proofs.Laws.RadianceFlat.{flat-found, length-flat}

@@ -9,11 +9,10 @@ use lib.Ieee.{Float, nan}
 use lib.ListN.{length, getD, drop, List·getD-append}
 use lib.Seq.{getD-append-add}
 use Rattle.steps.specs.Place.{bytesFrom, spread}
-use Rattle.steps.proofs.Laws.Place.{spread-front, getD-bytes}
+use Rattle.steps.proofs.Laws.Place.{spread-front, getD-bytes, length-bytes}
 use Rattle.pixel.specs.declared.Pixel.{Pixel}
 use Rattle.pixel.specs.declared.Rgbe.{Rgbe}
 use Rattle.pixel.specs.Rgbe.{bytesOf}
-use Rattle.rows.proofs.Laws.Kept.{length-bytes}
 use Rattle.reader.specs.Samples.{SampleRule, rgbeAt, three, samplesFrom}
 use Rattle.writer.specs.Samples.{pixelAt, four, packed}
 

@@ -15,7 +15,7 @@ use Rattle.steps.specs.Numbered.{numberOf}
 use Rattle.steps.proofs.Laws.Loop.{Runs}
 use Rattle.steps.proofs.Laws.Turns.{by-test, Leads, run-keeps}
 use Rattle.steps.specs.declared.refusal.Refusal.{Refusal}
-use Rattle.steps.proofs.Laws.Answer.{passed, pass, failed, checked-append}
+use Rattle.steps.proofs.Laws.Answer.{passed, pass, failed, checked-append, callOf, one-answer}
 use Rattle.header.specs.Head as header
 use Rattle.header.specs.Head.{HeaderPromise, headerOf, headChecks, headOf, fieldsOf}
 use Rattle.header.specs.declared.Head.{Head}
@@ -132,14 +132,12 @@ read-limits bytes widest highest h head is k = header-limits bytes widest highes
 
 -- ---- One answer
 
+call-same : (a : ReadAnswer) → callOf read.Done read.Refused (paperOf a) ≡ a
+call-same (read.Done x) = refl
+call-same (read.Refused refusal) = refl
+
 by-paper : (a b : ReadAnswer) → paperOf a ≡ paperOf b → a ≡ b
-by-paper (read.Done x) (read.Done y) e = let same : x ≡ y = cc in rw same
-by-paper (read.Done x) (read.Refused s) e = absurd (let z : _≡_ {A = ℕ} 0 1 = cc in omega arith)
-by-paper (read.Refused r) (read.Done y) e = absurd (let z : _≡_ {A = ℕ} 0 1 = cc in omega arith)
-by-paper (read.Refused r) (read.Refused s) e =
-    let n : r .number ≡ s .number = cc in
-    let p : r .place ≡ s .place = cc in
-    λ i. read.Refused (record { number = n i; place = p i })
+by-paper = one-answer read.Done read.Refused paperOf call-same
 
 pub read-once : (bytes : List ℕ) (widest highest : ℕ) (out : List Float) (store : List ℕ) (a b : ReadAnswer) (o o′ : List Float) (s s′ : List ℕ)
     → ReadPromise bytes widest highest out store a o s → ReadPromise bytes widest highest out store b o′ s′ → (a ≡ b) × (o ≡ o′) × (s ≡ s′)

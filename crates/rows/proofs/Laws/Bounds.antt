@@ -10,8 +10,9 @@ use lib.Dec.{leb, eqb}
 use lib.ListN.{length, getD, length-replicate}
 use lib.Seq.{getD-drop}
 use Rattle.steps.specs.Loop.{pick}
+use Rattle.steps.proofs.Laws.Place.{length-bytes}
 use Rattle.steps.proofs.Laws.Turns.{by-test, Leads, run-keeps}
-use Rattle.rows.proofs.Laws.Kept.{Kept, kept-same, kept-then, kept-set, kept-spread, length-bytes}
+use Rattle.rows.proofs.Laws.Kept.{Kept, kept-same, kept-then, kept-set, kept-spread}
 use Rattle.rows.proofs.Laws.Channel.{channel-cases, at-onward}
 use Rattle.rows.proofs.Laws.Repeat.{repeat-cases}
 use Rattle.rows.proofs.Laws.Flat.{flat-cases, pixel-at}

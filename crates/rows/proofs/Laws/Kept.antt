@@ -1,12 +1,12 @@
 -- What stores below a place keep: the list's length, and everything from that place on.
-use Prim.Native.Nat.{ℕ, zero, suc, _+_, _*_, _<_}
+use Prim.Native.Nat.{ℕ, suc, _+_, _*_, _<_}
 use native.Mathlib.Nat.{mul-suc}
 use native.Mathlib.Omega.{arith}
 use mathlib.Core.List.{List, [], _∷_}
-use mathlib.Core.Path.{_≡_, refl, ap, _∙_}
+use mathlib.Core.Path.{_≡_, refl, _∙_}
 use lib.ListN.{length, drop, set, length-set}
 use lib.Seq.{drop-set-lt}
-use Rattle.steps.specs.Place.{bytesFrom, spread}
+use Rattle.steps.specs.Place.{spread}
 
 pub record Kept (limit : ℕ) (before after : List ℕ) : Type 0 where
   pub long : length after ≡ length before
@@ -28,8 +28,3 @@ kept-spread limit d s i [] h = kept-same limit s
 kept-spread limit d s i (v ∷ vs) h =
     let e : d * suc (length vs) ≡ d * length vs + d = mul-suc d (length vs) in
     kept-then (kept-set limit s i v (omega arith)) (kept-spread limit d (set s i v) (i + d) vs (omega arith))
-
-pub length-bytes : (xs : List ℕ) (p n : ℕ) → length (bytesFrom xs p n) ≡ n
-unfolding bytesFrom
-length-bytes xs p zero = refl
-length-bytes xs p (suc n) = ap suc (length-bytes xs (p + 1) n)

@@ -2,9 +2,10 @@
 use Prim.Native.Nat.{ℕ}
 use mathlib.Core.Bool.{Bool, true, false}
 use mathlib.Core.List.{List, [], _∷_, _++_}
-use mathlib.Core.Path.{_≡_, refl, sym}
+use mathlib.Core.Path.{_≡_, refl, sym, ap, _∙_}
 use native.Mathlib.Omega.{arith}
-use Rattle.steps.specs.Answer.{done, refused, refuse, Check, check, checked}
+use Rattle.steps.specs.declared.refusal.Refusal.{Refusal}
+use Rattle.steps.specs.Answer.{Answer, done, refused, refuse, Check, check, checked}
 
 -- every check passes
 abbrev pub Passed : List Check → Type 0
@@ -47,3 +48,12 @@ pub checked-append : {A : Type 0} (refusing : ℕ → A) (cs ds : List Check) (r
 checked-append refusing [] ds rest = refl
 checked-append refusing (check number true ∷ cs) ds rest = refl
 checked-append refusing (check number false ∷ cs) ds rest = checked-append refusing cs ds rest
+
+-- a call's answer, from the paper's and the two cases of the call's own
+abbrev pub callOf : {A X : Type 0} → (A → X) → (Refusal → X) → Answer A → X
+callOf give refuse (done a) = give a
+callOf give refuse (refused number place) = refuse (record { number = number; place = place })
+
+-- so two answers of a call are equal where the paper's are
+pub one-answer : {A X : Type 0} (give : A → X) (refuse : Refusal → X) (paper : X → Answer A) → ((x : X) → callOf give refuse (paper x) ≡ x) → (x y : X) → paper x ≡ paper y → x ≡ y
+one-answer give refuse paper same x y e = sym (same x) ∙ ap (callOf give refuse) e ∙ same y

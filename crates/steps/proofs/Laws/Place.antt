@@ -14,6 +14,11 @@ unfolding spread
 length-spread d s i [] = refl
 length-spread d s i (v ∷ vs) = length-spread d (set s i v) (i + d) vs ∙ length-set s i v
 
+pub length-bytes : (xs : List ℕ) (p n : ℕ) → length (bytesFrom xs p n) ≡ n
+unfolding bytesFrom
+length-bytes xs p zero = refl
+length-bytes xs p (suc n) = ap suc (length-bytes xs (p + 1) n)
+
 -- what is stored in two goes
 pub spread-append : {A : Type 0} (d : ℕ) (s : List A) (i : ℕ) (us vs : List A) → spread d s i (us ++ vs) ≡ spread d (spread d s i us) (i + d * length us) vs
 unfolding spread

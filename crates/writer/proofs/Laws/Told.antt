@@ -10,7 +10,7 @@ use lib.Dec.{ltb}
 use lib.Ieee.{Float}
 use Rattle.steps.specs.Answer.{Answer, done, refused, refuse}
 use Rattle.steps.specs.declared.amount.Amount.{Amount}
-use Rattle.steps.proofs.Laws.Answer.{Passed, passed-by, differ, pass}
+use Rattle.steps.proofs.Laws.Answer.{Passed, passed-by, differ, pass, callOf, one-answer}
 use Rattle.steps.proofs.Laws.Place.{spread-front}
 use Rattle.writer.specs.Samples.{firstBright, FirstBright}
 use Rattle.writer.specs.Frame.{frameOf}
@@ -134,14 +134,12 @@ module _ (w h n : ℕ) where
 
 -- ---- One answer
 
+call-same : (a : WriteAnswer) → callOf Done Refused (paperOf a) ≡ a
+call-same (Done x) = refl
+call-same (Refused refusal) = refl
+
 by-paper : (a b : WriteAnswer) → paperOf a ≡ paperOf b → a ≡ b
-by-paper (Done x) (Done y) e = let same : x ≡ y = cc in rw same
-by-paper (Done x) (Refused s) e = absurd (let z : _≡_ {A = ℕ} 0 1 = cc in omega arith)
-by-paper (Refused r) (Done y) e = absurd (let z : _≡_ {A = ℕ} 0 1 = cc in omega arith)
-by-paper (Refused r) (Refused s) e =
-    let n : r .number ≡ s .number = cc in
-    let p : r .place ≡ s .place = cc in
-    λ i. Refused (record { number = n i; place = p i })
+by-paper = one-answer Done Refused paperOf call-same
 
 both-once : (a b : WriteAnswer) (o o′ : List ℕ) → _≡_ {A = Left} (paperOf a, o) (paperOf b, o′) → (a ≡ b) × (o ≡ o′)
 both-once a b o o′ e = (by-paper a b (ap (λ (z : Left). z .0) e), ap (λ (z : Left). z .1) e)

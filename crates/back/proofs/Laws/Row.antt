@@ -16,12 +16,12 @@ use Rattle.rows.specs.Flat.{isRepeat, flat, flatOf, flatOut, flatTurn}
 use Rattle.rows.specs.Row as read
 use Rattle.rows.proofs.Laws.Flat.{pixel-ordinary, flat-starts, flat-done, flat-again}
 use Rattle.rows.proofs.Laws.Row.{mark-by, kind-channels, chans-starts, chans-again, chans-done, row-by-width, row-channels}
 use Rattle.runs.specs.Channel.{code}
 use Rattle.runs.specs.Row.{isCoded, channel, codedRow, rowOf}
 use Rattle.steps.proofs.Laws.Place.{spread-append, drop-next, drop-past, bytes-there}
 use Rattle.runs.proofs.Laws.Row.{length-channel, coded-widths, row-coded, row-flat, flat-size}
-use Rattle.runs.proofs.Laws.ChannelBack.{ReadAs, code-read}
-use Rattle.runs.proofs.Laws.Weave.{bytes-four, weave, mark-covered}
+use Rattle.back.proofs.Laws.Channel.{ReadAs, code-read}
+use Rattle.back.proofs.Laws.Weave.{bytes-four, weave, mark-covered}
 
 -- ---- a row of four channels
 

@@ -12,8 +12,8 @@ use Rattle.rows.specs.declared.Taken.{Taken}
 use Rattle.rows.specs.declared.Taken.the-variants.{Done}
 use Rattle.rows.specs.Channel.{chan, channelOf, channelOut, channelTurn}
 use Rattle.rows.proofs.Laws.Channel.{length-run, length-literals, span-run, span-literals, span-again, turn-done, channel-starts}
 use Rattle.runs.specs.Channel.{packet, code}
-use Rattle.runs.proofs.Laws.Coded.{code-by}
+use Rattle.back.proofs.Laws.Coded.{code-by}
 use Rattle.steps.proofs.Laws.Place.{spread-append, drop-next, drop-past, bytes-there}
 
 -- the reader is at a place of src, has `done` bytes of the channel, and goes on to the answer a

@@ -1,0 +1,2 @@
+-- `Laws` has the laws of what is read back.
+pub mod Laws
