@@ -14,7 +14,7 @@ use Rattle.pixel.specs.Units.{plain}
 use Rattle.pixel.specs.Rgbe.{peak}
 use Rattle.pixel.specs.Kept.{KeptAll, zeros}
 use Rattle.header.specs.declared.Head.{Head}
-use Rattle.rows.specs.Flat.{isRepeat}
+use Rattle.flat.specs.Flat.{isRepeat}
 use Rattle.runs.specs.Row.{isCoded}
 use Rattle.reader.specs.Samples.{rgbeAt}
 use Rattle.reader.specs.Read.{crateRow, cratePixel, readBy, paperOf, ReadPromise}

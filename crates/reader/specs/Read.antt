@@ -10,8 +10,8 @@ use Rattle.pixel.specs.Rgbe.{crateUnits, pixelOf}
 use Rattle.header.specs.declared.Head.{Head}
 use Rattle.header.specs.Head.{headChecks, fieldsOf, headOf}
 use Rattle.rows.specs.Row.{rowOf}
-use Rattle.rows.specs.declared.Taken.{Taken}
-use Rattle.rows.specs.declared.Taken.the-variants.{Done, Short}
+use Rattle.steps.specs.declared.Taken.{Taken}
+use Rattle.steps.specs.declared.Taken.the-variants.{Done, Short}
 use Rattle.reader.specs.Samples.{SampleRule}
 use Rattle.reader.specs.Frame.{Outcome, next, fault, RowRule, Left, cleared, rowsOf}
 use Rattle.reader.specs.declared.ReadAnswer.{ReadAnswer}

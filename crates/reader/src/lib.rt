@@ -3,7 +3,7 @@ mod samples;
 
 use header::Head;
 use header::HeadAnswer;
-use rows::Taken;
+use steps::Taken;
 use steps::amount;
 use steps::amount::Amount;
 use steps::refusal;

@@ -1,9 +1,5 @@
 -- The laws of the definitions in `specs/`, a file for each of its files; the files before them hold what these share, `Bounds` what a caller uses.
 pub mod Kept
-pub mod Fourth
-pub mod Channel
-pub mod Repeat
-pub mod Flat
 pub mod Row
 pub mod Bounds
 pub mod Examples

@@ -1,5 +1,2 @@
 -- "Rows read" of document 01: one row of the input into the row store.
-pub mod Channel
-pub mod Repeat
-pub mod Flat
 pub mod Row

@@ -4,11 +4,11 @@ use mathlib.Core.List.{List}
 use mathlib.Core.Bool.{Bool, _&&_, _||_}
 use lib.ListN.{length, getD, set}
 use lib.Dec.{ltb, leb, eqb}
-use Rattle.steps.specs.Loop.{pick, Turn, more, halt, run}
-use Rattle.rows.specs.Channel.{channelOf}
-use Rattle.rows.specs.Flat.{flatOf}
-use Rattle.rows.specs.declared.Taken.{Taken}
-use Rattle.rows.specs.declared.Taken.the-variants.{Done, Short}
+use Rattle.steps.specs.Loop.{pick}
+use Rattle.channels.specs.Channels.{channelsOf}
+use Rattle.flat.specs.Flat.{flatOf}
+use Rattle.steps.specs.declared.Taken.{Taken}
+use Rattle.steps.specs.declared.Taken.the-variants.{Done, Short}
 use Rattle.rows.specs.declared.kind.Kind.{Kind}
 use Rattle.rows.specs.declared.kind.Kind.the-variants.{Missing, Flat, Pixel, Channels}
 
@@ -38,37 +38,6 @@ kindOf src at store =
     (pick (leb (length src) (at + 3)) (Missing, two)
     (pick (isMark second third) (Channels (at + 4), two) (Pixel (at + 4), set (set two 0 2) 3 fourth)))))
     (Flat, store))
-
--- ---- "four channels, one after another"
-
--- how far the channels are: the next place in the input, the next channel, and the row store
-pub record Chans : Type 0 where
-  pub at : ℕ
-  pub channel : ℕ
-  pub store : List ℕ
-
--- that record, from its three fields
-abbrev pub chans : ℕ → ℕ → List ℕ → Chans
-chans at channel store = record { at = at; channel = channel; store = store }
-
--- after a channel comes the next, or refusal 9
-abbrev pub afterChannel : ℕ → Taken → List ℕ → Turn Chans (Taken × List ℕ)
-afterChannel channel (Done next) store = more (chans next (channel + 1) store)
-afterChannel channel Short store = halt (Short, store)
-
--- one more channel, until four are read
-unfoldable pub chansTurn : List ℕ → ℕ → Chans → Turn Chans (Taken × List ℕ)
-chansTurn src width x =
-    let read = channelOf src (x .at) (x .store) (x .channel) width in
-    pick (ltb (x .channel) 4) (afterChannel (x .channel) (read .0) (read .1)) (halt (Done (x .at), x .store))
-
--- where the turns are used up, which never happens
-abbrev pub chansOut : Chans → Taken × List ℕ
-chansOut x = (Short, x .store)
-
--- the four channels, from a place of the input on; five turns are enough
-unfoldable pub channelsOf : List ℕ → ℕ → List ℕ → ℕ → Taken × List ℕ
-channelsOf src at store width = run (chansTurn src width) chansOut 5 (chans at 0 store)
 
 -- ---- The row
 

@@ -1,21 +1,12 @@
 // One row of the input, read into the row store.
-mod channel;
-mod flat;
-mod fourth;
 mod kind;
-mod repeat;
 
 use kind::Kind;
+use steps::Taken;
 ghost use mathlib.Core.Path.{_≡_};
 ghost use Prim.Native.Nat.{_*_, _≤_};
 ghost use lib.ListN.{length};
 ghost use Rattle.rows.specs.Row.{rowOf};
-
-// What reading a row, or a part of one, answers: the next place in the input, or refusal 9, that the bytes end too early.
-pub enum Taken {
-    Done { next: usize },
-    Short,
-}
 
 // The row from a place of the input on.
 pub fn read_row(src: &[u8], at: usize, store: &mut [u8], width: usize) -> Taken
@@ -30,6 +21,6 @@ pub fn read_row(src: &[u8], at: usize, store: &mut [u8], width: usize) -> Taken
         Kind::Missing => Taken::Short,
         Kind::Flat => flat::read_flat(src, at, store, 0, width),
         Kind::Pixel { next } => flat::read_flat(src, next, store, 4, width - 1),
-        Kind::Channels { next } => channel::read_channels(src, next, store, width),
+        Kind::Channels { next } => channels::read_channels(src, next, store, width),
     }
 }

@@ -7,6 +7,12 @@ ghost use Prim.Native.Nat.{_+_, _-_, _≤_, min};
 ghost use lib.ListN.{length, getD, replicate};
 ghost use Rattle.steps.specs.Place.{spread, bytesFrom};
 
+// What reading a row, or a part of one, answers: the next place in the input, or refusal 9, that the bytes end too early.
+pub enum Taken {
+    Done { next: usize },
+    Short,
+}
+
 // A byte as a number that can be added up.
 pub fn wide(b: u8) -> usize
     ensures { λ r. ⌜ r ≡ b ⌝ }

@@ -8,10 +8,10 @@ use lib.ListN.{length, drop, replicate, length-append, length-replicate, length-
 use lib.Seq.{drop-append-seam}
 use Rattle.steps.specs.Place.{bytesFrom, spread}
 use Rattle.steps.proofs.Laws.Loop.{Runs, runs-halt}
-use Rattle.rows.specs.declared.Taken.{Taken}
-use Rattle.rows.specs.declared.Taken.the-variants.{Done}
-use Rattle.rows.specs.Channel.{chan, channelOf, channelOut, channelTurn}
-use Rattle.rows.proofs.Laws.Channel.{length-run, length-literals, span-run, span-literals, span-again, turn-done, channel-starts}
+use Rattle.steps.specs.declared.Taken.{Taken}
+use Rattle.steps.specs.declared.Taken.the-variants.{Done}
+use Rattle.channels.specs.Channel.{chan, channelOf, channelOut, channelTurn}
+use Rattle.channels.proofs.Laws.Channel.{length-run, length-literals, span-run, span-literals, span-again, turn-done, channel-starts}
 use Rattle.runs.specs.Channel.{packet, code}
 use Rattle.back.proofs.Laws.Coded.{code-by}
 use Rattle.steps.proofs.Laws.Place.{spread-append, drop-next, drop-past, bytes-there}

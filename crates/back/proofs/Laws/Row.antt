@@ -10,12 +10,14 @@ use lib.Dec.{leb, lit<, lit≤}
 use borrow.Author.Tests.{lt-ltb, le-ltb, leb-true, leb-false}
 use Rattle.steps.specs.Place.{bytesFrom, spread}
 use Rattle.steps.proofs.Laws.Loop.{Runs}
-use Rattle.rows.specs.declared.Taken.{Taken}
-use Rattle.rows.specs.declared.Taken.the-variants.{Done}
-use Rattle.rows.specs.Flat.{isRepeat, flat, flatOf, flatOut, flatTurn}
+use Rattle.steps.specs.declared.Taken.{Taken}
+use Rattle.steps.specs.declared.Taken.the-variants.{Done}
+use Rattle.flat.specs.Flat.{isRepeat, flat, flatOf, flatOut, flatTurn}
 use Rattle.rows.specs.Row as read
-use Rattle.rows.proofs.Laws.Flat.{pixel-ordinary, flat-starts, flat-done, flat-again}
-use Rattle.rows.proofs.Laws.Row.{mark-by, kind-channels, chans-starts, chans-again, chans-done, row-by-width, row-channels}
+use Rattle.flat.proofs.Laws.Flat.{pixel-ordinary, flat-starts, flat-done, flat-again}
+use Rattle.channels.specs.Channels.{chans, chansOut, chansTurn, channelsOf}
+use Rattle.channels.proofs.Laws.Channels.{chans-starts, chans-again, chans-done}
+use Rattle.rows.proofs.Laws.Row.{mark-by, kind-channels, row-by-width, row-channels}
 use Rattle.runs.specs.Channel.{code}
 use Rattle.runs.specs.Row.{isCoded, channel, codedRow, rowOf}
 use Rattle.steps.proofs.Laws.Place.{spread-append, drop-next, drop-past, bytes-there}
@@ -36,15 +38,15 @@ FourRead px p w c0 c1 c2 c3 = ReadAs w c0 (channel px p w) × ReadAs w c1 (chann
 module _ (w : ℕ) (src : List ℕ) where
   -- one channel more is read
   next-channel : (c xs : List ℕ) → ReadAs w c xs → (at k : ℕ) (store rest : List ℕ) (a : Taken × List ℕ) → k < 4 → drop at src ≡ c ++ rest
-      → Runs (read.chansTurn src w) read.chansOut (4 - k) (read.chans at k store) a
-      → Runs (read.chansTurn src w) read.chansOut (4 - (k + 1)) (read.chans (at + length c) (k + 1) (spread 4 store k xs)) a
+      → Runs (chansTurn src w) chansOut (4 - k) (chans at k store) a
+      → Runs (chansTurn src w) chansOut (4 - (k + 1)) (chans (at + length c) (k + 1) (spread 4 store k xs)) a
   next-channel c xs reads at k store rest a h e r = chans-again src w at k store a r _ _ h (sym (reads src at store k rest e)) _ refl
 
   module _ (px : List ℕ) (p : ℕ) (c0 c1 c2 c3 : List ℕ) (four : FourRead px p w c0 c1 c2 c3) where
     channels-there : (at : ℕ) (store rest : List ℕ) → drop at src ≡ c0 ++ (c1 ++ (c2 ++ (c3 ++ rest)))
-        → (next : ℕ) → next ≡ at + length c0 + length c1 + length c2 + length c3 → (Done next, spread 1 store 0 (bytesFrom px p (4 * w))) ≡ read.channelsOf src at store w
+        → (next : ℕ) → next ≡ at + length c0 + length c1 + length c2 + length c3 → (Done next, spread 1 store 0 (bytesFrom px p (4 * w))) ≡ channelsOf src at store w
     channels-there at store rest e0 next ends =
-        let a = read.channelsOf src at store w in
+        let a = channelsOf src at store w in
         let e1 : drop (at + length c0) src ≡ c1 ++ (c2 ++ (c3 ++ rest)) = drop-past src at c0 _ e0 in
         let e2 : drop (at + length c0 + length c1) src ≡ c2 ++ (c3 ++ rest) = drop-past src _ c1 _ e1 in
         let e3 : drop (at + length c0 + length c1 + length c2) src ≡ c3 ++ rest = drop-past src _ c2 _ e2 in

@@ -21,7 +21,7 @@ use Rattle.pixel.specs.Kept.{InRange, stepOf, KeptAll, zeros}
 use Rattle.pixel.proofs.Laws.Digits.{size-gt}
 use Rattle.pixel.proofs.Laws.Kept.{kept-at-a-pixel, black-back}
 use Rattle.pixel.proofs.Laws.Written.{written-bytes}
-use Rattle.rows.specs.Flat.{isRepeat}
+use Rattle.flat.specs.Flat.{isRepeat}
 use Rattle.reader.specs.Samples.{rgbeAt, samplesFrom}
 use Rattle.reader.specs.Read.{cratePixel}
 use Rattle.writer.specs.Samples.{pixelAt, packed}

@@ -16,9 +16,9 @@ use Rattle.header.specs.declared.HeadAnswer.the-variants.{Read}
 use Rattle.header.specs.Head.{limit, headerOf}
 use Rattle.header.specs.Written.{written}
 use Rattle.header.proofs.Laws.Back.{header-back}
-use Rattle.rows.specs.Flat.{isRepeat}
+use Rattle.flat.specs.Flat.{isRepeat}
 use Rattle.rows.specs.Row as read
-use Rattle.rows.specs.declared.Taken.{Taken}
+use Rattle.steps.specs.declared.Taken.{Taken}
 use Rattle.runs.specs.Row.{isCoded, rowOf}
 use Rattle.back.proofs.Laws.Row.{NoRepeat, row-back}
 use Rattle.reader.specs.Samples.{samplesFrom}

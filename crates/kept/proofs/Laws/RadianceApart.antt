@@ -5,11 +5,12 @@ use mathlib.Core.Path.{_≡_, refl}
 use lib.ListN.{replicate}
 use Rattle.steps.specs.Loop.{run}
 use Rattle.steps.specs.Place.{bytesFrom, spread}
-use Rattle.rows.specs.declared.Taken.the-variants.{Done, Short}
-use Rattle.rows.specs.Channel.{channelOf, channelTurn, isRun, spanAt, spanBytes, spanLength, spanOf, spanTaken}
-use Rattle.rows.specs.Repeat.{copied, lasts, repeatOf, repeatTurn}
-use Rattle.rows.specs.Flat.{flatOf, flatTurn, fourTo, goesOn, isRepeat, pixelOf, repeated}
-use Rattle.rows.specs.Row.{channelsOf, chansTurn, isFlatWidth, isMark, kindOf, rowOf}
+use Rattle.steps.specs.declared.Taken.the-variants.{Done, Short}
+use Rattle.channels.specs.Channel.{channelOf, channelTurn, isRun, spanAt, spanBytes, spanLength, spanOf, spanTaken}
+use Rattle.flat.specs.Repeat.{copied, lasts, repeatOf, repeatTurn}
+use Rattle.flat.specs.Flat.{flatOf, flatTurn, fourTo, goesOn, isRepeat, pixelOf, repeated}
+use Rattle.channels.specs.Channels.{channelsOf, chansTurn}
+use Rattle.rows.specs.Row.{isFlatWidth, isMark, kindOf, rowOf}
 use Rattle.kept.specs.Radiance.{rgbe, isOver, span, spans, components, past, coded, isOldRun, meaning, flatFrom, flat, flatBytes}
 
 -- ---- Old runs

@@ -10,7 +10,7 @@ use lib.Dec.{ltb, leb}
 use lib.ListN.{length, take, drop, replicate, length-append, length-replicate, length-take, take-append-drop}
 use Rattle.steps.specs.Loop.{pick}
 use Rattle.steps.proofs.Laws.Turns.{and-left, and-right, by-test}
-use Rattle.rows.specs.declared.Taken.{Taken}
+use Rattle.steps.specs.declared.Taken.{Taken}
 use Rattle.back.proofs.Laws.Channel.{Reads, reads-none, reads-both, reads-run, reads-packet, ReadAs, read-as}
 use Rattle.kept.specs.Radiance.{Found, after, andThen, isOver, span, spans, component}
 

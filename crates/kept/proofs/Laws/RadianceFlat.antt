@@ -12,10 +12,10 @@ use lib.ListN.{length, getD, drop, set}
 use Rattle.steps.specs.Place.{bytesFrom, spread}
 use Rattle.steps.proofs.Laws.Place.{drop-next}
 use Rattle.pixel.specs.declared.Rgbe.{Rgbe}
-use Rattle.rows.specs.declared.Taken.the-variants.{Done}
-use Rattle.rows.specs.Flat.{isRepeat, flatOf}
+use Rattle.steps.specs.declared.Taken.the-variants.{Done}
+use Rattle.flat.specs.Flat.{isRepeat, flatOf}
 use Rattle.rows.specs.Row.{isFlatWidth, isMark, rowOf}
-use Rattle.rows.proofs.Laws.Flat.{flat-starts}
+use Rattle.flat.proofs.Laws.Flat.{flat-starts}
 use Rattle.rows.proofs.Laws.Row.{narrow, not-narrow, mark-not, kind-flat, kind-pixel, row-by-width, row-flat, row-pixel}
 use Rattle.runs.proofs.Laws.Channel.{and-no}
 use Rattle.back.proofs.Laws.Row.{NoRepeat, coded-width, flat-there}

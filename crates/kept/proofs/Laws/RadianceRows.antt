@@ -12,7 +12,7 @@ use Rattle.steps.specs.Place.{bytesFrom, spread}
 use Rattle.steps.proofs.Laws.Place.{bytes-there}
 use Rattle.steps.proofs.Laws.Turns.{and-left, and-right}
 use Rattle.pixel.specs.declared.Rgbe.{Rgbe}
-use Rattle.rows.specs.declared.Taken.the-variants.{Done}
+use Rattle.steps.specs.declared.Taken.the-variants.{Done}
 use Rattle.rows.specs.Row.{rowOf}
 use Rattle.runs.specs.Row.{channel}
 use Rattle.back.proofs.Laws.Channel.{ReadAs}

@@ -14,7 +14,7 @@ use Rattle.steps.specs.Loop.{pick}
 use Rattle.steps.specs.Place.{bytesFrom}
 use Rattle.pixel.specs.declared.Rgbe.{Rgbe}
 use Rattle.runs.specs.Channel.{packet, code}
-use Rattle.rows.specs.Flat.{isRepeat}
+use Rattle.flat.specs.Flat.{isRepeat}
 use Rattle.steps.proofs.Laws.Place.{length-bytes}
 use Rattle.runs.specs.Row.{isCoded, channel, codedRow, rowOf}
 use Rattle.back.proofs.Laws.Coded.{code-by}

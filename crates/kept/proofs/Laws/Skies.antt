@@ -9,8 +9,8 @@ use Rattle.header.specs.Lines.{upTo, past, same, isFirst, lineTurn, linesEnd}
 use Rattle.header.specs.Fields.{isBlank, trimStart, trimEnd, fieldsAt, axesOf}
 use Rattle.header.specs.Sizes.{unsigned, isDigit, allDigits, valueFrom, isNumber, isSize, sizeOf}
 use Rattle.header.specs.Head.{fieldsOf, headChecks, headOf}
-use Rattle.rows.specs.Repeat.{lasts, copied, repeatTurn, repeatOf}
-use Rattle.rows.specs.Flat.{fourTo, isRepeat, repeated, pixelOf, goesOn, flatTurn, flatOf}
+use Rattle.flat.specs.Repeat.{lasts, copied, repeatTurn, repeatOf}
+use Rattle.flat.specs.Flat.{fourTo, isRepeat, repeated, pixelOf, goesOn, flatTurn, flatOf}
 use Rattle.rows.specs.Row.{isFlatWidth, kindOf, rowOf}
 use Rattle.runs.specs.Channel.{grow, cut, stretch, gather, code}
 use Rattle.reader.specs.Samples.{samplesFrom}

@@ -23,8 +23,8 @@ use Rattle.header.specs.declared.HeadAnswer.{HeadAnswer}
 use Rattle.header.specs.declared.HeadAnswer.the-variants.{Read, Refused}
 use Rattle.header.proofs.Laws.Head.{header-limits}
 use Rattle.rows.specs.Row.{rowOf}
-use Rattle.rows.specs.declared.Taken.{Taken}
-use Rattle.rows.specs.declared.Taken.the-variants.{Done, Short}
+use Rattle.steps.specs.declared.Taken.{Taken}
+use Rattle.steps.specs.declared.Taken.the-variants.{Done, Short}
 use Rattle.reader.specs.Samples.{samplesFrom}
 use Rattle.reader.specs.Frame.{Left, Rows, cleared, rows, afterRow, rowTurn, noRows, rowsOf, endsEarly}
 use Rattle.reader.specs.Read.{crateRow, cratePixel, outcomeOf, taking, framed, readBy, frameAnswer, paperOf, ReadPromise}

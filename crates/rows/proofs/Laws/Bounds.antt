@@ -13,18 +13,20 @@ use Rattle.steps.specs.Loop.{pick}
 use Rattle.steps.proofs.Laws.Place.{length-bytes}
 use Rattle.steps.proofs.Laws.Turns.{by-test, Leads, run-keeps}
 use Rattle.rows.proofs.Laws.Kept.{Kept, kept-same, kept-then, kept-set, kept-spread}
-use Rattle.rows.proofs.Laws.Channel.{channel-cases, at-onward}
-use Rattle.rows.proofs.Laws.Repeat.{repeat-cases}
-use Rattle.rows.proofs.Laws.Flat.{flat-cases, pixel-at}
-use Rattle.rows.proofs.Laws.Row.{chans-cases, not-flat}
-use Rattle.rows.specs.declared.Taken.{Taken}
-use Rattle.rows.specs.declared.Taken.the-variants.{Done, Short}
+use Rattle.channels.proofs.Laws.Channel.{channel-cases, at-onward}
+use Rattle.flat.proofs.Laws.Repeat.{repeat-cases}
+use Rattle.flat.proofs.Laws.Flat.{flat-cases, pixel-at}
+use Rattle.channels.proofs.Laws.Channels.{chans-cases}
+use Rattle.rows.proofs.Laws.Row.{not-flat}
+use Rattle.steps.specs.declared.Taken.{Taken}
+use Rattle.steps.specs.declared.Taken.the-variants.{Done, Short}
 use Rattle.rows.specs.declared.kind.Kind.{Kind}
 use Rattle.rows.specs.declared.kind.Kind.the-variants as kind
-use Rattle.rows.specs.Channel.{Chan, channelOf, channelOut, channelTurn, isRun, spanAt, spanBytes, spanLength, spanOf}
-use Rattle.rows.specs.Repeat.{Rep, copied, repeatOf, repeatOut, repeatTurn}
-use Rattle.rows.specs.Flat.{Flat, flat, flatOf, flatOut, flatTurn, fourTo, isRepeat, pixelOf, repeated}
-use Rattle.rows.specs.Row.{Chans, channelsOf, chansOut, chansTurn, isFlatWidth, isMark, kindOf, restOf, rowOf}
+use Rattle.channels.specs.Channel.{Chan, channelOf, channelOut, channelTurn, isRun, spanAt, spanBytes, spanLength, spanOf}
+use Rattle.flat.specs.Repeat.{Rep, copied, repeatOf, repeatOut, repeatTurn}
+use Rattle.flat.specs.Flat.{Flat, flat, flatOf, flatOut, flatTurn, fourTo, isRepeat, pixelOf, repeated}
+use Rattle.channels.specs.Channels.{Chans, channelsOf, chansOut, chansTurn}
+use Rattle.rows.specs.Row.{isFlatWidth, isMark, kindOf, restOf, rowOf}
 
 -- ---- From a place and a store to a later place and store
 

@@ -4,11 +4,11 @@ use mathlib.Core.Path.{_≡_, refl}
 use lib.ListN.{replicate}
 use Rattle.steps.specs.Loop.{run}
 use Rattle.steps.specs.Place.{bytesFrom, spread}
-use Rattle.rows.specs.Channel.{channelOf, channelTurn, isRun, spanAt, spanBytes, spanLength, spanOf, spanTaken}
-use Rattle.rows.specs.Repeat.{copied, lasts, repeatOf, repeatTurn}
-use Rattle.rows.specs.Flat.{flatOf, flatTurn, fourTo, goesOn, isRepeat, pixelOf, repeated}
+use Rattle.channels.specs.Channel.{channelOf, channelTurn, isRun, spanAt, spanBytes, spanLength, spanOf, spanTaken}
+use Rattle.flat.specs.Repeat.{copied, lasts, repeatOf, repeatTurn}
+use Rattle.flat.specs.Flat.{flatOf, flatTurn, fourTo, goesOn, isRepeat, pixelOf, repeated}
 use Rattle.rows.specs.Row.{isFlatWidth, rowOf}
-use Rattle.rows.specs.declared.Taken.the-variants.{Done, Short}
+use Rattle.steps.specs.declared.Taken.the-variants.{Done, Short}
 
 -- sample sky 5: width 4, one row (10,10,10,129)(20,20,20,129)(1,1,1,2): the row store ends 1,1,1,2,0,0,0,0
 pub sky-5 : rowOf (10 ∷ 10 ∷ 10 ∷ 129 ∷ 20 ∷ 20 ∷ 20 ∷ 129 ∷ 1 ∷ 1 ∷ 1 ∷ 2 ∷ []) 0 (replicate 16 0) 4

@@ -1,4 +1,4 @@
--- The laws of `specs/Row.antt`: of the kind of row, of the four channels, of the row.
+-- The laws of `specs/Row.antt`: of the kind of row, and of the row.
 use Prim.Native.Nat.{ℕ, _+_, _-_, _*_, _<_, _≤_}
 use native.Mathlib.Omega.{arith}
 use mathlib.Core.List.{List}
@@ -7,16 +7,14 @@ use mathlib.Core.Path.{_≡_, refl, sym, ap, _∙_}
 use borrow.Author.Tests.{lt-ltb, le-ltb, ltb-true, ltb-false, le-leb, lt-leb, eq-eqb, ne-eqb}
 use lib.ListN.{length, getD, set}
 use lib.Dec.{ltb}
-use Rattle.steps.specs.Loop.{pick, Turn, more, halt, run}
-use Rattle.steps.proofs.Laws.Loop.{Runs, runs-start, runs-more, runs-halt}
-use Rattle.steps.proofs.Laws.Turns.{by-test, Falls, never-out}
-use Rattle.rows.specs.Channel.{channelOf}
-use Rattle.rows.specs.Flat.{flatOf}
-use Rattle.rows.specs.declared.Taken.{Taken}
-use Rattle.rows.specs.declared.Taken.the-variants.{Done, Short}
+use Rattle.steps.specs.Loop.{pick}
+use Rattle.flat.specs.Flat.{flatOf}
+use Rattle.steps.specs.declared.Taken.{Taken}
+use Rattle.steps.specs.declared.Taken.the-variants.{Done, Short}
 use Rattle.rows.specs.declared.kind.Kind.{Kind}
 use Rattle.rows.specs.declared.kind.Kind.the-variants.{Missing, Flat, Pixel, Channels}
-use Rattle.rows.specs.Row.{Chans, afterChannel, channelsOf, chans, chansOut, chansTurn, isFlatWidth, isMark, kindOf, restOf, rowOf}
+use Rattle.channels.specs.Channels.{channelsOf}
+use Rattle.rows.specs.Row.{isFlatWidth, isMark, kindOf, restOf, rowOf}
 
 -- ---- The kind of row
 
@@ -98,50 +96,6 @@ module _ (src : List ℕ) (at : ℕ) (store : List ℕ) where
       pub kind-pixel : b ≡ false
           → (Pixel (at + 4), set (set (set (set store 1 (getD src (at + 1) 0)) 2 (getD src (at + 2) 0)) 0 2) 3 (getD src (at + 3) 0)) ≡ kindOf src at store
       kind-pixel t = simp (sym e ∙ t) at whole
-
--- ---- The four channels
-
-pub chans-starts : (src : List ℕ) (at : ℕ) (store : List ℕ) (width : ℕ) → Runs (chansTurn src width) chansOut (4 - 0) (chans at 0 store) (channelsOf src at store width)
-unfolding channelsOf
-chans-starts src at store width = runs-start _ _ _ _ _ (omega arith)
-
-module _ (src : List ℕ) (width p channel : ℕ) (store : List ℕ) (a : Taken × List ℕ) (r : Runs (chansTurn src width) chansOut (4 - channel) (chans p channel store) a) where
-  pub chans-done : 4 ≤ channel → (Done p, store) ≡ a
-  unfolding chansTurn
-  chans-done h = runs-halt r (simp (le-ltb channel 4 h))
-
-  module _ (t : Taken) (store′ : List ℕ) (h : channel < 4) (e : (t, store′) ≡ channelOf src p store channel width) where
-    turned : chansTurn src width (chans p channel store) ≡ afterChannel channel t store′
-    unfolding chansTurn
-    turned = simp (lt-ltb channel 4 h) (ap (λ (z : Taken × List ℕ). afterChannel channel (z .0) (z .1)) (sym e))
-
-    pub chans-short : t ≡ Short → (Short, store′) ≡ a
-    chans-short k = runs-halt r (turned ∙ rw k)
-
-    pub chans-again : (next : ℕ) → t ≡ Done next → Runs (chansTurn src width) chansOut (4 - (channel + 1)) (chans next (channel + 1) store′) a
-    chans-again next k = runs-more r (turned ∙ rw k) (omega arith)
-
--- a turn, case by case
-pub chans-cases : (src : List ℕ) (width : ℕ) (x : Chans) (L : Turn Chans (Taken × List ℕ) → Type 0)
-    → ((next : ℕ) (s : List ℕ) → x .channel < 4 → (Done next, s) ≡ channelOf src (x .at) (x .store) (x .channel) width → L (more (chans next (x .channel + 1) s)))
-    → ((s : List ℕ) → x .channel < 4 → (Short, s) ≡ channelOf src (x .at) (x .store) (x .channel) width → L (halt (Short, s)))
-    → L (halt (Done (x .at), x .store)) → L (chansTurn src width x)
-unfolding chansTurn
-chans-cases src width x L next short done =
-    let read = channelOf src (x .at) (x .store) (x .channel) width in
-    by-test L (ltb (x .channel) 4) (λ t. after (ltb-true (x .channel) 4 t) (read .0) (read .1) refl) (λ t. done)
-  where
-    after : x .channel < 4 → (t : Taken) (s : List ℕ) → (t, s) ≡ channelOf src (x .at) (x .store) (x .channel) width → L (afterChannel (x .channel) t s)
-    after h (Done n) s e = next n s h e
-    after h Short s e = short s h e
-
--- the turns never run out, since there are four channels
-pub channels-never-out : (src : List ℕ) (at : ℕ) (store : List ℕ) (width : ℕ) (out : Chans → Taken × List ℕ)
-    → channelsOf src at store width ≡ run (chansTurn src width) out 5 (chans at 0 store)
-unfolding channelsOf
-channels-never-out src at store width out =
-    let μ : Chans → ℕ = λ x. 4 - x .channel in
-    never-out (chansTurn src width) chansOut out μ (λ x. chans-cases src width x (Falls μ x) (λ next s h e. omega arith) (λ s h e. tt) tt) _ _ (omega arith)
 
 -- ---- The row
 

@@ -1,0 +1,3 @@
+-- What a reader has to believe of the channels of a row.
+pub mod Channel
+pub mod Channels
