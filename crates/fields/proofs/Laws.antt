@@ -2,4 +2,3 @@
 pub mod Filled
 pub mod Numerals
 pub mod Fields
-pub mod Hex

@@ -1,4 +1,3 @@
--- How a line is written: numbers, fields, and values in hexadecimal.
+-- How a line is written: numbers and fields.
 pub mod Numerals
 pub mod Fields
-pub mod Hex

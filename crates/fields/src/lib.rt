@@ -1,4 +1,3 @@
 // The fields of a replay line, and buffers as they are lent.
-pub mod hex;
 pub mod lent;
 pub mod text;

@@ -5,11 +5,11 @@ use mathlib.Core.List.{List, [], _∷_}
 use mathlib.Core.Path.{_≡_}
 use lib.Dec.{ltb}
 use Rattle.steps.specs.Answer.{Answer, done, refuse, refusalOf, Check, check, checked}
-use Rattle.header.specs.Lines.{lineFeed, past, firstLine, isFirst, linesEnd}
-use Rattle.header.specs.Fields.{Fields, fieldsAt, axesOf}
-use Rattle.header.specs.Sizes.{sizeOf, isSize}
-use Rattle.header.specs.declared.fields.Axes.{Axes}
-use Rattle.header.specs.declared.fields.Axes.the-variants.{HeightFirst, WidthFirst, Other}
+use Rattle.words.specs.Lines.{lineFeed, past, firstLine, isFirst, linesEnd}
+use Rattle.words.specs.Fields.{Fields, fieldsAt, axesOf}
+use Rattle.words.specs.Sizes.{sizeOf, isSize}
+use Rattle.words.specs.declared.fields.Axes.{Axes}
+use Rattle.words.specs.declared.fields.Axes.the-variants.{HeightFirst, WidthFirst, Other}
 use Rattle.header.specs.declared.Head.{Head}
 use Rattle.header.specs.declared.HeadAnswer.{HeadAnswer}
 use Rattle.header.specs.declared.HeadAnswer.the-variants.{Read, Refused}

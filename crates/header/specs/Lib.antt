@@ -1,6 +1,3 @@
--- Document 01, "Header", in its order.
-pub mod Lines
-pub mod Fields
-pub mod Sizes
+-- Document 01, "Header": what reading it answers, and the header as it is written.
 pub mod Head
 pub mod Written

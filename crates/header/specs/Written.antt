@@ -3,8 +3,8 @@ use Prim.Native.Nat.{ℕ, zero, suc, _+_, _/_, _%_}
 use mathlib.Core.Bool.{true, false}
 use mathlib.Core.List.{List, [], _∷_, _++_}
 use lib.Dec.{ltb}
-use Rattle.header.specs.Lines.{lineFeed, space, radianceLine}
-use Rattle.header.specs.Fields.{minusY, plusX}
+use Rattle.words.specs.Lines.{lineFeed, space, radianceLine}
+use Rattle.words.specs.Fields.{minusY, plusX}
 
 -- SOFTWARE=zune-hdr
 abbrev pub softwareLine : List ℕ

@@ -1,20 +1,20 @@
 // The header of a Radiance picture: read, and as it is written.
-mod fields;
-mod lines;
-mod sizes;
 mod written;
 
-use fields::Axes;
-use sizes::Size;
 use steps::refusal;
 use steps::refusal::Refusal;
+use words::fields;
+use words::fields::Axes;
+use words::lines;
+use words::sizes;
+use words::sizes::Size;
 pub use written::length;
 pub use written::write;
 ghost use mathlib.Core.Path.{_≡_};
 ghost use Prim.Native.Nat.{_≤_};
 ghost use lib.ListN.{length};
 ghost use Rattle.steps.specs.Answer.{refuse};
-ghost use Rattle.header.specs.Fields.{fieldsAt};
+ghost use Rattle.words.specs.Fields.{fieldsAt};
 ghost use Rattle.header.specs.Head.{sizesAnswer, fieldsAnswer, paperOf, HeaderPromise};
 
 // What a header says, and how many bytes it takes.

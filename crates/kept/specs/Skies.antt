@@ -13,8 +13,8 @@ use Rattle.pixel.specs.declared.Packed.{Packed}
 use Rattle.pixel.specs.declared.Packed.the-variants.{Bytes}
 use Rattle.pixel.specs.Rgbe.{crateUnits, docUnits, pixelOf, packedOf}
 use Rattle.header.specs.declared.Head.{Head}
-use Rattle.header.specs.Lines.{rgbeLine, lineFeed, space}
-use Rattle.header.specs.Fields.{minusY, plusX}
+use Rattle.words.specs.Lines.{rgbeLine, lineFeed, space}
+use Rattle.words.specs.Fields.{minusY, plusX}
 use Rattle.runs.specs.Channel.{code}
 use Rattle.reader.specs.Read.{crateRow, cratePixel, readBy}
 

@@ -1,6 +1,5 @@
 // Standard input, cut into lines.
 use crate::answer;
-use crate::print;
 use libc::STDIN_FILENO;
 ghost use Prim.Native.Nat.{_≤_};
 ghost use lib.ListN.{length};

@@ -2,7 +2,6 @@
 mod answer;
 mod lines;
 mod names;
-mod print;
 mod reads;
 mod writes;
 

@@ -1,6 +1,4 @@
 // The answers of the writer.
-use crate::print;
-use fields::hex;
 use fields::lent;
 use fields::text;
 use fields::text::Number;

@@ -8,14 +8,14 @@ use borrow.Author.Tests.{lt-ltb, le-ltb, ltb-false}
 use Rattle.steps.specs.Loop.{pick}
 use Rattle.steps.specs.Answer.{Answer, refuse, done}
 use Rattle.steps.proofs.Laws.Answer.{passed, callOf, one-answer}
-use Rattle.header.specs.Lines.{lineFeed, space, past, between, firstLine, isFirst, linesEnd}
-use Rattle.header.specs.Fields.{Fields, trim, fieldsAt, axesOf}
-use Rattle.header.specs.Sizes.{sizeOf, isSize, sizeAnswer}
+use Rattle.words.specs.Lines.{lineFeed, space, past, between, firstLine, isFirst, linesEnd}
+use Rattle.words.specs.Fields.{Fields, trim, fieldsAt, axesOf}
+use Rattle.words.specs.Sizes.{sizeOf, isSize, sizeAnswer}
 use Rattle.header.specs.Head.{fieldsOf, heightField, widthField, isOther, headOf, headChecks, headerOf, paperOf, HeaderPromise, sizesAnswer, fieldsAnswer}
-use Rattle.header.specs.declared.sizes.Size.{Size}
-use Rattle.header.specs.declared.sizes.Size.the-variants.{Number, NoNumber}
-use Rattle.header.specs.declared.fields.Axes.{Axes}
-use Rattle.header.specs.declared.fields.Axes.the-variants.{HeightFirst, WidthFirst, Other}
+use Rattle.words.specs.declared.sizes.Size.{Size}
+use Rattle.words.specs.declared.sizes.Size.the-variants.{Number, NoNumber}
+use Rattle.words.specs.declared.fields.Axes.{Axes}
+use Rattle.words.specs.declared.fields.Axes.the-variants.{HeightFirst, WidthFirst, Other}
 use Rattle.header.specs.declared.Head.{Head}
 use Rattle.header.specs.declared.HeadAnswer.{HeadAnswer}
 use Rattle.header.specs.declared.HeadAnswer.the-variants.{Read, Refused}

@@ -12,8 +12,8 @@ use lib.Dec.{ltb, lit<, lit≤}
 use Rattle.steps.specs.Loop.{pick}
 use Rattle.steps.specs.Place.{spread, bytesFrom}
 use Rattle.steps.proofs.Laws.Place.{spread-then}
-use Rattle.header.specs.Lines.{lineFeed, space, radianceLine}
-use Rattle.header.specs.Fields.{minusY, plusX}
+use Rattle.words.specs.Lines.{lineFeed, space, radianceLine}
+use Rattle.words.specs.Fields.{minusY, plusX}
 use Rattle.header.specs.Written.{softwareLine, formatLine, emptyLine, digitsBy, digits, written}
 
 -- ---- Digits: those of n / 10, and the last

@@ -15,7 +15,7 @@ use Rattle.header.specs.declared.Head.{Head}
 use Rattle.header.specs.declared.HeadAnswer.the-variants.{Read}
 use Rattle.header.specs.Head.{limit, headerOf}
 use Rattle.header.specs.Written.{written}
-use Rattle.header.proofs.Laws.Back.{header-back}
+use Rattle.back.proofs.Laws.Header.{header-back}
 use Rattle.flat.specs.Flat.{isRepeat}
 use Rattle.rows.specs.Row as read
 use Rattle.steps.specs.declared.Taken.{Taken}

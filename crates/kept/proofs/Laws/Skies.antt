@@ -5,9 +5,9 @@ use Rattle.steps.specs.Loop.{run}
 use Rattle.steps.specs.Place.{bytesFrom, spread}
 use Rattle.pixel.specs.Units.{ofUnits, mag}
 use Rattle.pixel.specs.Rgbe.{crateShift, crateScale, crateUnits, docScale, docUnits, peak, tooBright, bytesOf, packedOf}
-use Rattle.header.specs.Lines.{upTo, past, same, isFirst, lineTurn, linesEnd}
-use Rattle.header.specs.Fields.{isBlank, trimStart, trimEnd, fieldsAt, axesOf}
-use Rattle.header.specs.Sizes.{unsigned, isDigit, allDigits, valueFrom, isNumber, isSize, sizeOf}
+use Rattle.words.specs.Lines.{upTo, past, same, isFirst, lineTurn, linesEnd}
+use Rattle.words.specs.Fields.{isBlank, trimStart, trimEnd, fieldsAt, axesOf}
+use Rattle.words.specs.Sizes.{unsigned, isDigit, allDigits, valueFrom, isNumber, isSize, sizeOf}
 use Rattle.header.specs.Head.{fieldsOf, headChecks, headOf}
 use Rattle.flat.specs.Repeat.{lasts, copied, repeatTurn, repeatOf}
 use Rattle.flat.specs.Flat.{fourTo, isRepeat, repeated, pixelOf, goesOn, flatTurn, flatOf}

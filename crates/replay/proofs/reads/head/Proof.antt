@@ -1,7 +1,7 @@
 -- `replay::reads::head` is safe and ends: the bytes that were read fit.
 use borrow.Author.Needs.{needs}
 use Rattle.fields.proofs.Laws.Filled.{front}
-use Rattle.fields.proofs.Laws.Hex.{bytes-fit}
+use Rattle.hex.proofs.Laws.Hex.{bytes-fit}
 use Rattle.replay.proofs.reads.head.Statement.{statement}
 use Rattle.replay.proofs.reads.head.Tie as tie
 

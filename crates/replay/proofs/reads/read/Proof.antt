@@ -1,7 +1,7 @@
 -- `replay::reads::read` is safe and ends: the bytes that were read fit, and so do both buffers.
 use borrow.Author.Needs.{needs}
 use Rattle.fields.proofs.Laws.Filled.{front}
-use Rattle.fields.proofs.Laws.Hex.{bytes-fit}
+use Rattle.hex.proofs.Laws.Hex.{bytes-fit}
 use Rattle.replay.proofs.reads.read.Statement.{statement}
 use Rattle.replay.proofs.reads.read.Tie as tie
 

@@ -1,7 +1,7 @@
 -- `replay::writes::write` is safe and ends: the samples that were read fit, and so does the output.
 use borrow.Author.Needs.{needs}
 use Rattle.fields.proofs.Laws.Filled.{front}
-use Rattle.fields.proofs.Laws.Hex.{samples-fit}
+use Rattle.hex.proofs.Laws.Hex.{samples-fit}
 use Rattle.replay.proofs.writes.write.Statement.{statement}
 use Rattle.replay.proofs.writes.write.Tie as tie
 

@@ -1,7 +1,7 @@
 -- `replay::writes::write4` is safe and ends: the bytes that were read fit, and so does the output.
 use borrow.Author.Needs.{needs}
 use Rattle.fields.proofs.Laws.Filled.{front}
-use Rattle.fields.proofs.Laws.Hex.{bytes-fit}
+use Rattle.hex.proofs.Laws.Hex.{bytes-fit}
 use Rattle.replay.proofs.writes.write4.Statement.{statement}
 use Rattle.replay.proofs.writes.write4.Tie as tie
 

@@ -1,0 +1,130 @@
+-- `hex::samples_of` meets its contract. The invariant: each value passed is that of its digits.
+use borrow.Author.Needs.{needs}
+use Prim.Native.Nat.{ℕ, _*_, _-_, _≤_, _<_}
+use mathlib.Core.Path.{_≡_}
+use native.Mathlib.Omega.{arith}
+use borrow.Author.Count.{below-none}
+use lib.ListN.{length, length-set, getD}
+use lib.Ieee.{nan}
+use Rattle.hex.specs.Hex.{countOf, valueAt, SampleIs}
+use Rattle.fields.specs.declared.text.Number.the-variants.{Is}
+use Rattle.hex.proofs.Laws.Hex.{count-is, count-room, pattern-small, samples-more}
+use Rattle.hex.proofs.samples_of.Statement.{statement}
+use Rattle.hex.proofs.samples_of.Tie as tie
+
+abbrev Inv-loop : tie.InvT-loop
+Inv-loop field samples₀ n k₀ samples k = (k ≤ n) × (length samples ≡ length samples₀) × (n ≤ length samples₀) × (8 * n ≤ length field) × (countOf 8 field ≡ Is n) × ((i : ℕ) → i < k → SampleIs (valueAt 8 field i) (getD samples i nan))
+
+abbrev μ-loop : tie.MeasureT-loop
+μ-loop field samples₀ n k₀ samples k = n - k
+
+count-requires : tie.Need-count-requires Inv-loop μ-loop
+count-requires c κs = search needs
+
+enum-known-n : tie.Need-enum-known-n Inv-loop μ-loop
+enum-known-n c = search needs
+
+enum-told : tie.Need-enum-told Inv-loop μ-loop
+enum-told c = search needs
+
+returns : tie.Need-returns Inv-loop μ-loop
+returns c = tt
+
+returns-2 : tie.Need-returns-2 Inv-loop μ-loop
+returns-2 c = tt
+
+loop-holds : tie.Need-loop-holds Inv-loop μ-loop
+loop-holds c = (search needs, search needs, search needs, search count-room, search count-is, below-none _)
+
+mul-numeral : tie.Need-mul-numeral Inv-loop μ-loop
+mul-numeral c = search needs
+
+mul-numeral-2 : tie.Need-mul-numeral-2 Inv-loop μ-loop
+mul-numeral-2 c = search needs
+
+add-numeral : tie.Need-add-numeral Inv-loop μ-loop
+add-numeral c = search needs
+
+sub-numeral : tie.Need-sub-numeral Inv-loop μ-loop
+sub-numeral c = search needs
+
+part-numeral-start : tie.Need-part-numeral-start Inv-loop μ-loop
+part-numeral-start c = search needs
+
+part-numeral-end : tie.Need-part-numeral-end Inv-loop μ-loop
+part-numeral-end c = search needs
+
+numeral-requires : tie.Need-numeral-requires Inv-loop μ-loop
+numeral-requires c κs = search needs
+
+enum-known-value : tie.Need-enum-known-value Inv-loop μ-loop
+enum-known-value c = search needs
+
+cast-sample-of : tie.Need-cast-sample-of Inv-loop μ-loop
+cast-sample-of c = record { fits = search pattern-small }
+
+sample-of-requires : tie.Need-sample-of-requires Inv-loop μ-loop
+sample-of-requires c κs = search needs
+
+mul-samples : tie.Need-mul-samples Inv-loop μ-loop
+mul-samples c = search needs
+
+slice-write-samples : tie.Need-slice-write-samples Inv-loop μ-loop
+slice-write-samples c = search needs
+
+enum-told-2 : tie.Need-enum-told-2 Inv-loop μ-loop
+enum-told-2 c = search needs
+
+same-length : tie.Need-same-length Inv-loop μ-loop
+same-length c = search needs
+
+returns-3 : tie.Need-returns-3 Inv-loop μ-loop
+returns-3 c = tt
+
+add-k : tie.Need-add-k Inv-loop μ-loop
+add-k c = search needs
+
+loop-less : tie.Need-loop-less Inv-loop μ-loop
+loop-less c = search needs
+
+loop-again : tie.Need-loop-again Inv-loop μ-loop
+loop-again c = (search needs, simp length-set (search needs), search needs, search needs, search needs, search samples-more)
+
+same-length-2 : tie.Need-same-length-2 Inv-loop μ-loop
+same-length-2 c = search needs
+
+returns-4 : tie.Need-returns-4 Inv-loop μ-loop
+returns-4 c = let inv = c .before .loop .inv in (omega arith, inv .4, λ i l. inv .5 i (omega arith))
+
+pub samples-of-spec : {M : Type 1} → statement M
+samples-of-spec =
+    tie.close
+    (tie.spec
+    Inv-loop
+    μ-loop
+    count-requires
+    enum-known-n
+    enum-told
+    returns
+    returns-2
+    loop-holds
+    mul-numeral
+    mul-numeral-2
+    add-numeral
+    sub-numeral
+    part-numeral-start
+    part-numeral-end
+    numeral-requires
+    enum-known-value
+    cast-sample-of
+    sample-of-requires
+    mul-samples
+    slice-write-samples
+    enum-told-2
+    same-length
+    returns-3
+    add-k
+    loop-less
+    loop-again
+    same-length-2
+    returns-4)

@@ -1,0 +1,2 @@
+-- Values in hexadecimal, as a line ends with them.
+pub mod Hex

@@ -1,0 +1,2 @@
+-- The law of bit patterns.
+pub mod Pattern

@@ -1,0 +1,2 @@
+-- `Laws` has what the proofs use.
+pub mod Laws

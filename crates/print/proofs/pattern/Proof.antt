@@ -1,0 +1,17 @@
+-- `print::pattern` meets its contract: what equals itself is a number.
+use borrow.Author.Needs.{needs}
+use Rattle.print.proofs.Laws.Pattern.{self-number, no-pattern}
+use Rattle.print.proofs.pattern.Statement.{statement}
+use Rattle.print.proofs.pattern.Tie as tie
+
+float-to-bits-result : tie.Need-float-to-bits-result
+float-to-bits-result c = search self-number
+
+returns : tie.Need-returns
+returns c = search needs
+
+returns-2 : tie.Need-returns-2
+returns-2 c = search no-pattern
+
+pub pattern-spec : {M : Type 1} → statement M
+pattern-spec = tie.close (tie.spec float-to-bits-result returns returns-2)

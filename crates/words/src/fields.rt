@@ -1,0 +1,80 @@
+// Fields: parts of the bytes without the white space at their ends.
+use crate::lines;
+ghost use mathlib.Core.Path.{_≡_};
+ghost use Rattle.words.specs.Fields.{isBlank, trimStart, trimEnd, trim, axesOf};
+
+// White space: 9 to 13, and 32.
+fn is_blank(x: u8) -> bool
+    ensures { λ r. ⌜ r ≡ isBlank x ⌝ }
+{
+    if x == 32 {
+        return true;
+    }
+    if x < 9 {
+        return false;
+    }
+    x <= 13
+}
+
+// The part without the white space that it starts with.
+fn trim_start(part: &[u8]) -> &[u8]
+    ensures { λ r. ⌜ now r ≡ trimStart (now (part .entry)) ⌝ }
+{
+    let mut at = 0;
+    while at < part.len() {
+        if is_blank(part[at]) {
+            at += 1;
+        } else {
+            return &part[at..];
+        }
+    }
+    &part[at..]
+}
+
+// The part without the white space that it ends with.
+fn trim_end(part: &[u8]) -> &[u8]
+    ensures { λ r. ⌜ now r ≡ trimEnd (now (part .entry)) ⌝ }
+{
+    let mut end = part.len();
+    while 0 < end {
+        if is_blank(part[end - 1]) {
+            end -= 1;
+        } else {
+            return &part[0..end];
+        }
+    }
+    &part[0..end]
+}
+
+// The part without the white space at its ends.
+pub fn trim(part: &[u8]) -> &[u8]
+    ensures { λ r. ⌜ now r ≡ trim (now (part .entry)) ⌝ }
+{
+    trim_end(trim_start(part))
+}
+
+// What the first and third fields say together.
+pub enum Axes {
+    HeightFirst,
+    WidthFirst,
+    Other,
+}
+
+// Which of height and width comes first.
+pub fn axes_of(first: &[u8], third: &[u8]) -> Axes
+    ensures { λ r. ⌜ r ≡ axesOf (now (first .entry)) (now (third .entry)) ⌝ }
+{
+    if lines::same(first, b"-Y") {
+        if lines::same(third, b"+X") {
+            return Axes::HeightFirst;
+        }
+        return Axes::Other;
+    }
+    if lines::same(first, b"+X") {
+        if lines::same(third, b"-Y") {
+            return Axes::WidthFirst;
+        }
+        return Axes::Other;
+    }
+    Axes::Other
+}
