@@ -6,6 +6,7 @@ pub mod Samples
 pub mod Frame
 pub mod Back
 pub mod Calls
+pub mod Sharp
 pub mod Skies
 pub mod RadianceValues
 pub mod RadianceComponent

@@ -1,18 +1,19 @@
 -- Demand 3, read back: a frame that is written, and then read. Over whole numbers of 2^-149: 2^-32 is 2^117 of them, and 2^31 is 2^180.
 use Prim.Native.Nat.{ℕ, _-_, _*_, _^_, _<_, _≤_}
 use mathlib.Core.Bool.{false}
-use mathlib.Core.List.{List, _++_}
+use mathlib.Core.List.{List, [], _∷_, _++_}
 use mathlib.Core.Logic.{_⊎_}
 use mathlib.Core.Path.{_≡_}
 use lib.Dec.{T}
-use lib.Ieee.{Float}
+use lib.IntN.{pos, negsuc}
+use lib.Ieee.{Float, fin}
 use lib.ListN.{length, take, drop}
 use Rattle.steps.specs.Place.{spread}
 use Rattle.steps.specs.Answer.{Answer, done}
 use Rattle.pixel.specs.declared.Pixel.{Pixel}
 use Rattle.pixel.specs.Units.{plain}
 use Rattle.pixel.specs.Rgbe.{peak}
-use Rattle.pixel.specs.Kept.{KeptAll, zeros}
+use Rattle.loss.specs.Kept.{KeptAll, zeros}
 use Rattle.header.specs.declared.Head.{Head}
 use Rattle.flat.specs.Flat.{isRepeat}
 use Rattle.runs.specs.Row.{isCoded}
@@ -132,3 +133,20 @@ CallsComeBack4 w h px =
 
 abbrev pub IsWritten : ℕ → ℕ → List Float → Type 0
 IsWritten w h samples = (out : List ℕ) → length (fileOf samples w h) ≤ length out → writeOf w h samples out ≡ (done (length (fileOf samples w h)), spread 1 out 0 (fileOf samples w h))
+
+-- ---- The range can be no wider: one red pixel of the f32 next below 2^-32, which is 2^-32 - 2^-56, and one of 2^31
+
+abbrev pub nextBelow : Float
+nextBelow = fin false (2 ^ 24 - 1) (negsuc 55)
+
+abbrev pub firstAbove : Float
+firstAbove = fin false 1 (pos 31)
+
+abbrev pub oneRed : Float → List Float
+oneRed x = x ∷ fin false 0 (pos 0) ∷ fin false 0 (pos 0) ∷ []
+
+-- a frame of numbers that is not in range, and does not come back
+pub record Lost (x : Float) : Type 0 where
+  pub numbers : Numbers (pixel (oneRed x) 0)
+  pub outside : Between (peak (pixel (oneRed x) 0)) → ⊥
+  pub lost : ComesBack 1 1 (oneRed x) → ⊥

@@ -11,7 +11,8 @@ use Rattle.pixel.specs.declared.Pixel.{Pixel}
 use Rattle.pixel.specs.declared.Rgbe.{Rgbe}
 use Rattle.pixel.specs.declared.Packed.{Packed}
 use Rattle.pixel.specs.declared.Packed.the-variants.{Bytes}
-use Rattle.pixel.specs.Rgbe.{crateUnits, docUnits, pixelOf, packedOf}
+use Rattle.pixel.specs.Rgbe.{crateUnits, pixelOf, packedOf}
+use Rattle.loss.specs.Document.{docUnits}
 use Rattle.header.specs.declared.Head.{Head}
 use Rattle.words.specs.Lines.{rgbeLine, lineFeed, space}
 use Rattle.words.specs.Fields.{minusY, plusX}

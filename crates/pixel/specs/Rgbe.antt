@@ -1,8 +1,6 @@
 -- Four bytes to three samples, and three samples to four bytes, over whole numbers of 2^-149.
-use mathlib.Core.Path.{_≡_}
 use mathlib.Core.Bool.{Bool}
-use mathlib.Core.Logic.{_⊎_}
-use Prim.Native.Nat.{ℕ, _+_, _-_, _*_, _/_, _%_, _^_, _≤_, max}
+use Prim.Native.Nat.{ℕ, _+_, _-_, _*_, _/_, _%_, _^_, max}
 use lib.Dec.{ltb, leb, eqb}
 use lib.Ieee.{size}
 use Rattle.steps.specs.Loop.{pick}
@@ -25,20 +23,6 @@ crateScale e = pick (eqb e 0) 0 (2 ^ crateShift e)
 -- the crate's sample
 unfoldable pub crateUnits : ℕ → ℕ → ℕ
 crateUnits m e = m * crateScale e
-
--- ---- 'The document value is taken here as m·2^(E-136), and 0 if E is 0.'
-
--- what a mantissa of 1 is worth by the document: 2^(E-136) is 2^(E+13) times 2^-149
-unfoldable pub docScale : ℕ → ℕ
-docScale e = pick (eqb e 0) 0 (2 ^ (e + 13))
-
--- the document value
-unfoldable pub docUnits : ℕ → ℕ → ℕ
-docUnits m e = m * docScale e
-
--- 'For every m the two agree at E = 0 and at E from 97 to 159': those exponent bytes
-abbrev pub Alike : ℕ → Type 0
-Alike e = (e ≡ 0) ⊎ ((97 ≤ e) × (e ≤ 159))
 
 -- the pixel of four bytes, by a rule for one sample
 abbrev pub pixelOf : (ℕ → ℕ → ℕ) → Rgbe → Pixel
@@ -83,7 +67,3 @@ bytesOf p = pick (leb (peak p) dark) black (pick (tooBright p) black (coded (siz
 -- the bytes, or that the pixel is too bright
 unfoldable pub packedOf : Pixel → Packed
 packedOf p = pick (tooBright p) TooBright (Bytes (bytesOf p))
-
--- what every pixel is written as: black, or one of the three is at least 128 and the last is from 22 to 255
-abbrev pub Written : Rgbe → Type 0
-Written q = (q ≡ black) ⊎ (((128 ≤ q .r) ⊎ ((128 ≤ q .g) ⊎ (128 ≤ q .b))) × ((22 ≤ q .e) × (q .e ≤ 255)))

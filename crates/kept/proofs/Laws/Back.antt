@@ -16,16 +16,18 @@ use Rattle.steps.specs.Place.{spread}
 use Rattle.steps.proofs.Laws.Place.{length-spread, spread-front}
 use Rattle.pixel.specs.declared.Pixel.{Pixel}
 use Rattle.pixel.specs.declared.Rgbe.{Rgbe}
-use Rattle.pixel.specs.Rgbe.{crateUnits, pixelOf, peak, dark, bytesOf, Written}
-use Rattle.pixel.specs.Kept.{InRange, stepOf, KeptAll, zeros}
+use Rattle.pixel.specs.Rgbe.{crateUnits, pixelOf, peak, dark, bytesOf}
+use Rattle.loss.specs.Written.{Written}
+use Rattle.loss.specs.Kept.{InRange, stepOf, KeptAll, zeros}
 use Rattle.pixel.proofs.Laws.Digits.{size-gt}
-use Rattle.pixel.proofs.Laws.Kept.{kept-at-a-pixel, black-back}
-use Rattle.pixel.proofs.Laws.Written.{written-bytes}
+use Rattle.loss.proofs.Laws.Kept.{kept-at-a-pixel, black-back}
+use Rattle.loss.proofs.Laws.Written.{written-bytes}
 use Rattle.flat.specs.Flat.{isRepeat}
 use Rattle.reader.specs.Samples.{rgbeAt, samplesFrom}
-use Rattle.reader.specs.Read.{cratePixel}
+use Rattle.reader.specs.Read.{crateRow, cratePixel, readBy}
 use Rattle.writer.specs.Samples.{pixelAt, packed}
-use Rattle.kept.specs.Back.{pixel, Sizes, AllInRange, Beyond, Lies, step, NoOnes, ComesBack, ComesBack4}
+use Rattle.writer.specs.Write.{fileOf}
+use Rattle.kept.specs.Back.{pixel, Sizes, AllInRange, Enough, Beyond, Lies, step, NoOnes, ComesBack, ComesBack4}
 use Rattle.kept.proofs.Laws.Samples.{length-samples, pixel-of-samples, bytes-of-pixel}
 use Rattle.kept.proofs.Laws.Frame.{frame-back}
 
@@ -119,12 +121,18 @@ module _ (p q : Pixel) (is : q ≡ pixelOf crateUnits (bytesOf p)) where
   black-there : peak p ≡ 0 → q ≡ zeros
   black-there e = is ∙ black-back p (subst (λ (v : ℕ). v ≤ dark) (sym e) zero-le)
 
-pub read-back : (w h : ℕ) (samples : List Float) → Sizes w h → AllInRange samples (w * h) → ComesBack w h samples
+-- each pixel comes back as what its four bytes stand for, in range or not
+pub pixels-back : (w h : ℕ) (samples : List Float) → Sizes w h → (rest : List ℕ) (widest highest : ℕ) (out : List Float) (store : List ℕ) → Enough w h widest highest out store
+    → (k : ℕ) → k < w * h → pixel (readBy crateRow cratePixel (fileOf samples w h ++ rest) widest highest out store .1) k ≡ pixelOf crateUnits (bytesOf (pixel samples k))
 unfolding cratePixel
+pixels-back w h samples sizes rest widest highest out store enough k l =
+    read-back4 w h (packed samples 0 (w * h)) sizes (packed-no-ones samples w (w * h)) rest widest highest out store enough .pixels k l
+    ∙ ap cratePixel (packed-bytes samples (w * h) k l)
+
+pub read-back : (w h : ℕ) (samples : List Float) → Sizes w h → AllInRange samples (w * h) → ComesBack w h samples
 read-back w h samples sizes all rest widest highest out store enough =
-    let px : List ℕ = packed samples 0 (w * h) in
-    let back = read-back4 w h px sizes (packed-no-ones samples w (w * h)) rest widest highest out store enough in
-    let is : (k : ℕ) → k < w * h → _ ≡ pixelOf crateUnits (bytesOf (pixel samples k)) = λ k l. back .pixels k l ∙ ap cratePixel (packed-bytes samples (w * h) k l) in
+    let back = read-back4 w h (packed samples 0 (w * h)) sizes (packed-no-ones samples w (w * h)) rest widest highest out store enough in
+    let is = pixels-back w h samples sizes rest widest highest out store enough in
     record {
       answered = back .answered;
       kept = λ k n l lies. kept-there (pixel samples k) _ (is k l) (in-range samples (w * h) k all l) n lies;

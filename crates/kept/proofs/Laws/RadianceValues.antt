@@ -6,8 +6,9 @@ use native.Mathlib.Omega.{arith}
 use borrow.Author.Tests.{ne-eqb}
 use lib.Pow.{pow-add}
 use Rattle.pixel.specs.Units.{ofUnits}
-use Rattle.pixel.specs.Rgbe.{Alike, crateUnits, docScale, docUnits}
-use Rattle.pixel.proofs.Laws.Values.{values-agree, values-differ, floats-agree, floats-differ}
+use Rattle.pixel.specs.Rgbe.{crateUnits}
+use Rattle.loss.specs.Document.{Alike, docScale, docUnits}
+use Rattle.loss.proofs.Laws.Values.{values-agree, values-differ, floats-agree, floats-differ}
 use Rattle.kept.specs.Radiance.{middleUnits}
 
 -- the two values of a mantissa above 0 are the same exactly at these exponent bytes, as whole numbers and as f32s

@@ -4,7 +4,8 @@ use lib.Ieee.{round, size}
 use Rattle.steps.specs.Loop.{run}
 use Rattle.steps.specs.Place.{bytesFrom, spread}
 use Rattle.pixel.specs.Units.{ofUnits, mag}
-use Rattle.pixel.specs.Rgbe.{crateShift, crateScale, crateUnits, docScale, docUnits, peak, tooBright, bytesOf, packedOf}
+use Rattle.pixel.specs.Rgbe.{crateShift, crateScale, crateUnits, peak, tooBright, bytesOf, packedOf}
+use Rattle.loss.specs.Document.{docScale, docUnits}
 use Rattle.words.specs.Lines.{upTo, past, same, isFirst, lineTurn, linesEnd}
 use Rattle.words.specs.Fields.{isBlank, trimStart, trimEnd, fieldsAt, axesOf}
 use Rattle.words.specs.Sizes.{unsigned, isDigit, allDigits, valueFrom, isNumber, isSize, sizeOf}

@@ -1,11 +1,11 @@
--- What a mantissa of 1 is worth: the two scales by cases, and where they are one.
+-- What a mantissa of 1 is worth, by cases.
 use mathlib.Core.Path.{_≡_, sym, ap, _∙_, subst}
 use mathlib.Core.Logic.{⊎-elim}
 use Prim.Native.Nat.{ℕ, _+_, _-_, _%_, _^_, _≤_, _<_}
 use native.Mathlib.Omega.{arith}
 use borrow.Author.Tests.{eq-eqb, ne-eqb, lt-ltb, le-ltb}
 use Rattle.pixel.specs.Units.{ofUnits, Exactly}
-use Rattle.pixel.specs.Rgbe.{crateShift, crateScale, docScale}
+use Rattle.pixel.specs.Rgbe.{crateShift, crateScale}
 use Rattle.pixel.proofs.Laws.Numbers.{either}
 use Rattle.pixel.proofs.Laws.Units.{power-exact, zero-exact}
 
@@ -21,29 +21,14 @@ crate-low e h = simp (le-ltb 128 e h)
 pub crate-bounds : (e : ℕ) → (110 ≤ crateShift e) × (crateShift e ≤ 172)
 crate-bounds e = ⊎-elim (λ h. omega (arith, crate-high e h)) (λ h. omega (arith, crate-low e h)) (either 128 e)
 
-shifts-meet : (e : ℕ) → 97 ≤ e → e ≤ 159 → crateShift e ≡ e + 13
-shifts-meet e h k = ⊎-elim (λ l. omega (arith, crate-high e l)) (λ l. omega (arith, crate-low e l)) (either 128 e)
-
 -- ---- a scale is a power of two, and 0 at the exponent byte 0
 pub crate-at : (e : ℕ) → 0 < e → crateScale e ≡ 2 ^ crateShift e
 unfolding crateScale
 crate-at e h = simp (ne-eqb e 0 (λ z. omega arith))
 
-pub doc-at : (e : ℕ) → 0 < e → docScale e ≡ 2 ^ (e + 13)
-unfolding docScale
-doc-at e h = simp (ne-eqb e 0 (λ z. omega arith))
-
 pub crate-none : (e : ℕ) → e ≤ 0 → crateScale e ≡ 0
 unfolding crateScale
 crate-none e h = simp (eq-eqb e 0 (omega arith))
-
-pub doc-none : (e : ℕ) → e ≤ 0 → docScale e ≡ 0
-unfolding docScale
-doc-none e h = simp (eq-eqb e 0 (omega arith))
-
--- ---- one scale from 97 to 159
-pub scales-meet : (e : ℕ) → 97 ≤ e → e ≤ 159 → crateScale e ≡ docScale e
-scales-meet e h k = crate-at e (omega arith) ∙ ap (λ (j : ℕ). 2 ^ j) (shifts-meet e h k) ∙ sym (doc-at e (omega arith))
 
 -- what the crate multiplies by is exact
 pub scale-exact : (e : ℕ) → Exactly (ofUnits (crateScale e)) (crateScale e)

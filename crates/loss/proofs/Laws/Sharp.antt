@@ -37,6 +37,11 @@ most-last = refl
 pub least-byte : bytesOf (red (fin false 1 (pos 0))) ≡ bytes 128 129
 unfolding size mag peak tooBright bytesOf
 least-byte = refl
+
+-- the f32 next below 2^-32 comes back as 255/256
+pub next-dark : back (red (fin false (2 ^ 24 - 1) (negsuc 55))) ≡ red (fin false 255 (negsuc 7))
+unfolding round size ofUnits mag crateShift crateScale crateUnits peak tooBright bytesOf
+next-dark = refl
 
 -- 2^-33 and 2^31 come back as 1/2
 pub too-dark : back (red (fin false 1 (negsuc 32))) ≡ red (fin false 1 (negsuc 0))

@@ -6,11 +6,13 @@ use native.Mathlib.Nat.{lt-irrefl, lt-of-lt-of-le, mul-lt-mul-of-pos-left, mul-z
 use native.Mathlib.Omega.{arith}
 use lib.Dec.{lit≤}
 use lib.Pow.{pow-lt, pow-mono, shl-lt}
 use Rattle.pixel.specs.Units.{ofUnits, Exactly, mag}
-use Rattle.pixel.specs.Rgbe.{crateShift, crateScale, docScale, crateUnits, docUnits, Alike}
+use Rattle.pixel.specs.Rgbe.{crateShift, crateScale, crateUnits}
+use Rattle.loss.specs.Document.{docScale, docUnits, Alike}
 use Rattle.pixel.proofs.Laws.Numbers.{either}
 use Rattle.pixel.proofs.Laws.Units.{units-exact, zero-exact, mag-is}
-use Rattle.pixel.proofs.Laws.Scales.{crate-at, crate-bounds, crate-none, doc-at, doc-none, scales-meet}
+use Rattle.pixel.proofs.Laws.Scales.{crate-at, crate-bounds, crate-none}
+use Rattle.loss.proofs.Laws.Scales.{doc-at, doc-none, scales-meet}
 
 -- ---- every sample value is exact in f32
 exact-at : (m scale shift : ℕ) → m < 256 → shift ≤ 268 → scale ≡ 2 ^ shift → Exactly (ofUnits (m * scale)) (m * scale)

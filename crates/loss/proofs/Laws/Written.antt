@@ -8,11 +8,12 @@ use lib.Dec.{lit≤}
 use lib.Pow.{pow-pos, pow-add}
 use lib.Ieee.{size}
 use lib.Ieee.Digits.{size-le, size-reaches}
 use Rattle.pixel.specs.declared.Pixel.{Pixel}
-use Rattle.pixel.specs.Rgbe.{peak, dark, byteOf, coded, bytesOf, Written}
+use Rattle.pixel.specs.Rgbe.{peak, dark, byteOf, coded, bytesOf}
+use Rattle.loss.specs.Written.{Written}
 use Rattle.pixel.proofs.Laws.Numbers.{either}
 use Rattle.pixel.proofs.Laws.Digits.{size-low}
 use Rattle.pixel.proofs.Laws.Bytes.{peak-is, coded-bytes, black-bytes, bright-bytes, by-step}
 
 -- the byte of the largest
 peak-byte : (n : ℕ) → 8 ≤ size n → 128 ≤ byteOf (size n) n

@@ -9,17 +9,17 @@ use lib.Dec.{T, eqb→eq, lit<, lit≤}
 use lib.Pow.{pow-pos, split}
 use lib.Ieee.{Float, nan, inf, fin, binary32, up, down, fits, size}
 use lib.Ieee.Digits.{Equals, size-lt, size-le}
 use Rattle.pixel.specs.declared.Pixel.{Pixel}
 use Rattle.pixel.specs.declared.Rgbe.{Rgbe}
 use Rattle.pixel.specs.Units.{ofUnits, mag, plain}
 use Rattle.pixel.specs.Rgbe.{crateScale, crateUnits, pixelOf, peak, dark, byteOf, bytesOf}
-use Rattle.pixel.specs.Kept.{InRange, stepOf, Kept, KeptAll, zeros}
+use Rattle.loss.specs.Kept.{InRange, stepOf, Kept, KeptAll, zeros}
 use Rattle.pixel.proofs.Laws.Units.{zero-exact, exact-plain, mag-is}
 use Rattle.pixel.proofs.Laws.Samples.{shape, own-mag}
-use Rattle.pixel.proofs.Laws.Scales.{doc-at, scales-meet}
-use Rattle.pixel.proofs.Laws.Values.{crate-exact}
+use Rattle.loss.proofs.Laws.Scales.{doc-at, scales-meet}
+use Rattle.loss.proofs.Laws.Values.{crate-exact}
 use Rattle.pixel.proofs.Laws.Digits.{size-gt}
 use Rattle.pixel.proofs.Laws.Bytes.{r-peak, g-peak, b-peak, coded-bytes, black-bytes, by-step, byte-lt}
 
 -- ---- the whole number of any sample that is finite and not negative is its value
 pub plain-exact : (x : Float) → T (fits binary32 x) → T (plain x) → Equals x (mag x) (2 ^ 149)

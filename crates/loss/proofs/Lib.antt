@@ -1,0 +1,2 @@
+-- `Laws` has the theorems over the definitions in `specs/`.
+pub mod Laws

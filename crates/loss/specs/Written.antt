@@ -1,0 +1,10 @@
+-- What document 01 claims of the four bytes of a written pixel.
+use mathlib.Core.Path.{_≡_}
+use mathlib.Core.Logic.{_⊎_}
+use Prim.Native.Nat.{_≤_}
+use Rattle.pixel.specs.declared.Rgbe.{Rgbe}
+use Rattle.pixel.specs.Rgbe.{black}
+
+-- what every pixel is written as: black, or one of the three is at least 128 and the last is from 22 to 255
+abbrev pub Written : Rgbe → Type 0
+Written q = (q ≡ black) ⊎ (((128 ≤ q .r) ⊎ ((128 ≤ q .g) ⊎ (128 ≤ q .b))) × ((22 ≤ q .e) × (q .e ≤ 255)))

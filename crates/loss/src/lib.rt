@@ -1,0 +1,1 @@
+// The theorems over one pixel stand in specs/ and proofs/; there is no code here.
