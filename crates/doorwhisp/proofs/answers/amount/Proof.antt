@@ -1,0 +1,24 @@
+-- `answers::amount` meets its contract: a number is put, or that there is none.
+use borrow.Author.Needs.{needs}
+use Rattle.doorwhisp.specs.Numbers.{single, counted}
+use Rattle.doorwhisp.proofs.Laws.Numbers.{in-case}
+use Rattle.doorwhisp.proofs.answers.amount.Statement.{statement}
+use Rattle.doorwhisp.proofs.answers.amount.Tie as tie
+
+enum-known-told : tie.Need-enum-known-told
+enum-known-told c = search needs
+
+single-requires : tie.Need-single-requires
+single-requires c κs = search needs
+
+enum-told : tie.Need-enum-told
+enum-told c = search needs
+
+returns : tie.Need-returns
+returns c = search (in-case single counted)
+
+returns-2 : tie.Need-returns-2
+returns-2 c = search needs
+
+pub amount-spec : {M : Type 1} → statement M
+amount-spec = tie.close (tie.spec enum-known-told single-requires enum-told returns returns-2)

@@ -1,0 +1,30 @@
+-- `answers::head` meets its contract: the sizes are put, or the refusal.
+use borrow.Author.Needs.{needs}
+use Rattle.header.specs.Head.{paperOf}
+use Rattle.doorwhisp.specs.Numbers.{sizes}
+use Rattle.doorwhisp.proofs.Laws.Numbers.{in-case}
+use Rattle.doorwhisp.proofs.answers.head.Statement.{statement}
+use Rattle.doorwhisp.proofs.answers.head.Tie as tie
+
+enum-known-told : tie.Need-enum-known-told
+enum-known-told c = search needs
+
+sizes-requires : tie.Need-sizes-requires
+sizes-requires c κs = search needs
+
+enum-known-told-2 : tie.Need-enum-known-told-2
+enum-known-told-2 c = search needs
+
+refused-requires : tie.Need-refused-requires
+refused-requires c κs = search needs
+
+returns : tie.Need-returns
+returns c = search (in-case sizes paperOf)
+
+returns-2 : tie.Need-returns-2
+returns-2 c = search needs
+
+pub head-spec : {M : Type 1} → statement M
+head-spec =
+    tie.close
+    (tie.spec enum-known-told sizes-requires enum-known-told-2 refused-requires returns returns-2)

@@ -1,0 +1,86 @@
+// The five numbers of an answer.
+use header::Head;
+use header::HeadAnswer;
+use reader::ReadAnswer;
+use steps::amount::Amount;
+use steps::refusal::Refusal;
+use writer::WriteAnswer;
+ghost use mathlib.Core.Path.{_≡_};
+ghost use mathlib.Core.List.{_∷_, []};
+ghost use Rattle.steps.specs.Answer.{done};
+ghost use Rattle.header.specs.Head as header;
+ghost use Rattle.reader.specs.Read as reader;
+ghost use Rattle.writer.specs.Write as writer;
+ghost use Rattle.doorwhisp.specs.Numbers.{sizes, single, numbers, counted};
+
+// That there is no such number: it passes 2^64 - 1.
+const NONE: u64 = 255;
+
+// Width, height and the count of bytes taken.
+fn sizes(answer: &mut [u64; 5], head: Head)
+    ensures { λ _. ⌜ now (answer .exit) ≡ numbers sizes (done head) ⌝ }
+{
+    *answer = [
+        0,
+        0,
+        head.width as u64,
+        head.height as u64,
+        head.taken as u64,
+    ];
+}
+
+// One number, as a length.
+fn single(answer: &mut [u64; 5], n: usize)
+    ensures { λ _. ⌜ now (answer .exit) ≡ numbers single (done n) ⌝ }
+{
+    *answer = [0, 0, n as u64, 0, 0];
+}
+
+// A refusal's number and place.
+fn refused(answer: &mut [u64; 5], refusal: Refusal)
+    ensures { λ _. ⌜ now (answer .exit) ≡ refusal .number ∷ refusal .place ∷ 0 ∷ 0 ∷ 0 ∷ [] ⌝ }
+{
+    *answer = [refusal.number as u64, refusal.place as u64, 0, 0, 0];
+}
+
+// What reading a header answers.
+pub(crate) fn head(answer: &mut [u64; 5], told: HeadAnswer)
+    ensures { λ _. ⌜ now (answer .exit) ≡ numbers sizes (header.paperOf told) ⌝ }
+{
+    match told {
+        HeadAnswer::Read(head) => sizes(answer, head),
+        HeadAnswer::Refused(refusal) => refused(answer, refusal),
+    }
+}
+
+// What reading a file answers.
+pub(crate) fn read(answer: &mut [u64; 5], told: ReadAnswer)
+    ensures { λ _. ⌜ now (answer .exit) ≡ numbers sizes (reader.paperOf told) ⌝ }
+{
+    match told {
+        ReadAnswer::Done(head) => sizes(answer, head),
+        ReadAnswer::Refused(refusal) => refused(answer, refusal),
+    }
+}
+
+// What a call of the writer answers.
+pub(crate) fn written(answer: &mut [u64; 5], told: WriteAnswer)
+    ensures { λ _. ⌜ now (answer .exit) ≡ numbers single (writer.paperOf told) ⌝ }
+{
+    match told {
+        WriteAnswer::Done(n) => single(answer, n),
+        WriteAnswer::Refused(refusal) => refused(answer, refusal),
+    }
+}
+
+// A number, or that there is none.
+pub(crate) fn amount(answer: &mut [u64; 5], told: Amount)
+    ensures { λ _. ⌜ now (answer .exit) ≡ numbers single (counted told) ⌝ }
+{
+    match told {
+        Amount::Number(n) => single(answer, n),
+        Amount::None => {
+            *answer = [NONE, 0, 0, 0, 0];
+        }
+    }
+}
