@@ -1,0 +1,145 @@
+//! The calls as they are linked (`include/doorwhisp.h`), each behind a safe function.
+
+use crate::HdrError;
+
+/// The refusal's number or 0, its place or 0, and three values.
+type Answer = [u64; 5];
+
+#[rustfmt::skip]
+extern "C" {
+    fn doorwhisp_read_header(bytes: *const u8, bytes_length: usize, widest: usize, highest: usize, answer: &mut Answer);
+    fn doorwhisp_read(
+        bytes: *const u8, bytes_length: usize, widest: usize, highest: usize,
+        out: *mut f32, out_length: usize, store: *mut u8, store_length: usize, answer: &mut Answer,
+    );
+    fn doorwhisp_output_buffer_size(width: usize, height: usize, answer: &mut Answer);
+    fn doorwhisp_length(width: usize, height: usize, samples: *const f32, samples_length: usize, answer: &mut Answer);
+    fn doorwhisp_length4(width: usize, height: usize, pixels: *const u8, pixels_length: usize, answer: &mut Answer);
+    fn doorwhisp_worst(width: usize, height: usize, answer: &mut Answer);
+    fn doorwhisp_write(
+        width: usize, height: usize, samples: *const f32, samples_length: usize,
+        out: *mut u8, out_length: usize, answer: &mut Answer,
+    );
+    fn doorwhisp_write4(
+        width: usize, height: usize, pixels: *const u8, pixels_length: usize,
+        out: *mut u8, out_length: usize, answer: &mut Answer,
+    );
+    fn doorwhisp_expected_buffer_size(width: usize, height: usize, answer: &mut Answer);
+    fn doorwhisp_pixel_from_bytes(r: u8, g: u8, b: u8, e: u8, samples: &mut [f32; 3]);
+    fn doorwhisp_pixel_to_bytes(r: f32, g: f32, b: f32, bytes: &mut [u8; 4]) -> u8;
+}
+
+/// Width, height, and how many bytes were taken.
+#[derive(Clone, Copy, Debug)]
+pub struct Head {
+    pub width: usize,
+    pub height: usize,
+    pub taken: usize,
+}
+
+/// The three values, or the refusal.
+fn values(call: impl FnOnce(&mut Answer)) -> Result<[usize; 3], HdrError> {
+    let mut answer = [0; 5];
+    call(&mut answer);
+    match answer[0] {
+        0 => Ok([answer[2] as usize, answer[3] as usize, answer[4] as usize]),
+        number => Err(HdrError::numbered(number, answer[1] as usize)),
+    }
+}
+
+/// The first value, or the refusal.
+fn length(call: impl FnOnce(&mut Answer)) -> Result<usize, HdrError> {
+    values(call).map(|[n, _, _]| n)
+}
+
+/// The sizes, or the refusal.
+fn head(call: impl FnOnce(&mut Answer)) -> Result<Head, HdrError> {
+    values(call).map(|[width, height, taken]| Head {
+        width,
+        height,
+        taken,
+    })
+}
+
+/// The first value, unless there is none.
+fn amount(call: impl FnOnce(&mut Answer)) -> Option<usize> {
+    let mut answer = [0; 5];
+    call(&mut answer);
+    (answer[0] == 0).then_some(answer[2] as usize)
+}
+
+// Each slice below is handed over as its pointer, which is never null, and its length; the call keeps neither.
+
+pub fn read_header(bytes: &[u8], widest: usize, highest: usize) -> Result<Head, HdrError> {
+    head(|answer| unsafe {
+        doorwhisp_read_header(bytes.as_ptr(), bytes.len(), widest, highest, answer)
+    })
+}
+
+#[rustfmt::skip]
+pub fn read(bytes: &[u8], widest: usize, highest: usize, out: &mut [f32], store: &mut [u8]) -> Result<Head, HdrError> {
+    head(|answer| unsafe {
+        doorwhisp_read(
+            bytes.as_ptr(), bytes.len(), widest, highest,
+            out.as_mut_ptr(), out.len(), store.as_mut_ptr(), store.len(), answer,
+        )
+    })
+}
+
+pub fn output_buffer_size(width: usize, height: usize) -> Option<usize> {
+    amount(|answer| unsafe { doorwhisp_output_buffer_size(width, height, answer) })
+}
+
+pub fn samples_length(width: usize, height: usize, samples: &[f32]) -> Result<usize, HdrError> {
+    length(|answer| unsafe {
+        doorwhisp_length(width, height, samples.as_ptr(), samples.len(), answer)
+    })
+}
+
+pub fn pixels_length(width: usize, height: usize, pixels: &[u8]) -> Result<usize, HdrError> {
+    length(|answer| unsafe {
+        doorwhisp_length4(width, height, pixels.as_ptr(), pixels.len(), answer)
+    })
+}
+
+pub fn worst(width: usize, height: usize) -> Result<usize, HdrError> {
+    length(|answer| unsafe { doorwhisp_worst(width, height, answer) })
+}
+
+#[rustfmt::skip]
+pub fn write_samples(width: usize, height: usize, samples: &[f32], out: &mut [u8]) -> Result<usize, HdrError> {
+    length(|answer| unsafe {
+        doorwhisp_write(
+            width, height, samples.as_ptr(), samples.len(),
+            out.as_mut_ptr(), out.len(), answer,
+        )
+    })
+}
+
+#[rustfmt::skip]
+pub fn write_pixels(width: usize, height: usize, pixels: &[u8], out: &mut [u8]) -> Result<usize, HdrError> {
+    length(|answer| unsafe {
+        doorwhisp_write4(
+            width, height, pixels.as_ptr(), pixels.len(),
+            out.as_mut_ptr(), out.len(), answer,
+        )
+    })
+}
+
+pub fn expected_buffer_size(width: usize, height: usize) -> Option<usize> {
+    amount(|answer| unsafe { doorwhisp_expected_buffer_size(width, height, answer) })
+}
+
+pub fn pixel_from_bytes([r, g, b, e]: [u8; 4]) -> [f32; 3] {
+    let mut samples = [0.0; 3];
+    unsafe { doorwhisp_pixel_from_bytes(r, g, b, e, &mut samples) };
+    samples
+}
+
+pub fn pixel_to_bytes([r, g, b]: [f32; 3]) -> Result<[u8; 4], HdrError> {
+    let mut bytes = [0; 4];
+    match unsafe { doorwhisp_pixel_to_bytes(r, g, b, &mut bytes) } {
+        0 => Ok(bytes),
+        number => Err(HdrError::numbered(number.into(), 0)),
+    }
+}
