@@ -120,7 +120,8 @@ impl<'a> HdrDecoder<'a> {
         self.head.map(|head| 4 * head.width)
     }
 
-    /// The samples, three to a pixel, row by row from the top.
+    /// The samples, three to a pixel, row by row from the top. Memory for all of them is asked for first: set limits
+    /// for files that may say any size.
     pub fn decode(&mut self) -> Result<Vec<f32>, HdrError> {
         let head = self.head()?;
         let mut samples = vec![0.0; 3 * head.width * head.height];

@@ -1,0 +1,136 @@
+/*
+ * How a C program reads and writes Radiance HDR pictures with Doorwhisp.
+ *
+ *     example              makes a small frame, writes it, and reads it back
+ *     example FILE..       says how large each picture is and how bright, or why it is refused
+ *
+ * The exit status is 0, or 1 where a file is refused or cannot be had.
+ */
+#include <stdio.h>
+#include <stdlib.h>
+
+#include "doorwhisp.h"
+
+/* What a refusal means, in words. */
+static const char *words(uint64_t number) {
+    switch (number) {
+    case DOORWHISP_FIRST_LINE: return "this is no Radiance file, its first line is wrong";
+    case DOORWHISP_AXES: return "the picture is turned in a way that is not read";
+    case DOORWHISP_SIZE: return "the file does not say its height and width in numbers";
+    case DOORWHISP_TOO_HIGH: return "the picture is higher than the limit";
+    case DOORWHISP_TOO_WIDE: return "the picture is wider than the limit";
+    case DOORWHISP_SHORT_OUTPUT: return "the output is too short for the picture";
+    case DOORWHISP_NO_WIDTH: return "the picture has no width";
+    case DOORWHISP_SHORT_STORE: return "the row store is too short for a row";
+    case DOORWHISP_BYTES_END: return "the file ends in this row";
+    case DOORWHISP_OVER_LIMIT: return "the picture is over 65,535 wide or high";
+    case DOORWHISP_WRONG_LENGTH: return "the frame does not have the length that its sizes ask for";
+    case DOORWHISP_TOO_BRIGHT: return "this pixel is too bright for the format";
+    case DOORWHISP_NO_ROOM: return "the output is too short for the file";
+    default: return "the number passes 2^64 - 1";
+    }
+}
+
+/* Prints a refusal, and answers 1. */
+static int refused(const char *name, const uint64_t answer[5]) {
+    printf("%s: refusal %d at %lu: %s\n", name, (int)answer[0], (unsigned long)answer[1], words(answer[0]));
+    return 1;
+}
+
+/* Prints the darkest and the brightest of some samples, if there are any. */
+static void print_range(const float *samples, size_t count) {
+    float darkest, brightest;
+    size_t i;
+    if (count == 0) return;
+    darkest = brightest = samples[0];
+    for (i = 1; i < count; i++) {
+        if (samples[i] < darkest) darkest = samples[i];
+        if (samples[i] > brightest) brightest = samples[i];
+    }
+    printf(", samples from %g to %g", darkest, brightest);
+}
+
+/* Reads a picture that is in memory, and says what it is. */
+static int show(const char *name, const uint8_t *bytes, size_t length) {
+    uint64_t answer[5];
+    size_t count, row;
+    float *out;
+    uint8_t *store;
+
+    doorwhisp_read_header(bytes, length, 65535, 65535, answer);
+    if (answer[0] != 0) return refused(name, answer);
+    count = 3 * (size_t)answer[2] * (size_t)answer[3];
+    row = 4 * (size_t)answer[2];
+    out = malloc(count * sizeof *out + 1);
+    store = malloc(row + 1);
+    if (out == NULL || store == NULL) {
+        printf("%s: no memory\n", name);
+        answer[0] = 1;
+    } else {
+        doorwhisp_read(bytes, length, 65535, 65535, out, count, store, row, answer);
+        if (answer[0] != 0) {
+            refused(name, answer);
+        } else {
+            printf("%s: %lu by %lu pixels, %lu of %lu bytes taken", name, (unsigned long)answer[2],
+                   (unsigned long)answer[3], (unsigned long)answer[4], (unsigned long)length);
+            print_range(out, count);
+            printf("\n");
+        }
+    }
+    free(out);
+    free(store);
+    return answer[0] != 0;
+}
+
+/* Reads a file into memory; the caller frees it. Answers a null pointer where the file cannot be had. */
+static uint8_t *load(const char *name, size_t *length) {
+    FILE *file = fopen(name, "rb");
+    uint8_t *bytes = NULL;
+    long size;
+    if (file == NULL) return NULL;
+    if (fseek(file, 0, SEEK_END) == 0 && (size = ftell(file)) >= 0 && fseek(file, 0, SEEK_SET) == 0) {
+        bytes = malloc((size_t)size + 1);
+        if (bytes != NULL) *length = fread(bytes, 1, (size_t)size, file);
+    }
+    fclose(file);
+    return bytes;
+}
+
+/* Writes a frame of 8 by 2 equal pixels, and reads it back, whole and cut short. */
+static int own_frame(void) {
+    float samples[3 * 8 * 2];
+    uint8_t file[143];
+    uint64_t answer[5];
+    size_t i;
+
+    for (i = 0; i < 3 * 8 * 2; i += 3) {
+        samples[i] = 1.0f;
+        samples[i + 1] = 0.5f;
+        samples[i + 2] = 0.3f;
+    }
+    doorwhisp_worst(8, 2, answer);
+    if (answer[0] != 0) return refused("worst", answer);
+    printf("a file of 8 by 2 pixels has at most %lu bytes\n", (unsigned long)answer[2]);
+    doorwhisp_write(8, 2, samples, 3 * 8 * 2, file, sizeof file, answer);
+    if (answer[0] != 0) return refused("written", answer);
+    printf("this one has %lu\n", (unsigned long)answer[2]);
+    show("cut short", file, (size_t)answer[2] - 2);
+    return show("whole", file, (size_t)answer[2]);
+}
+
+int main(int count, char **names) {
+    int status = 0, i;
+    if (count < 2) return own_frame();
+    for (i = 1; i < count; i++) {
+        size_t length = 0;
+        uint8_t *bytes = load(names[i], &length);
+        if (bytes == NULL) {
+            printf("%s: cannot be read\n", names[i]);
+            status = 1;
+        } else {
+            status |= show(names[i], bytes, length);
+            free(bytes);
+        }
+    }
+    return status;
+}

@@ -1,0 +1,280 @@
+//! Real bytes through the linked calls. What is expected was worked out by hand from document 01.
+
+use doorwhisp::{
+    pixel_from_bytes, pixel_to_bytes, DecoderOptions, EncoderOptions, HdrDecoder, HdrEncoder,
+    HdrError,
+};
+
+/// A coded row of eight pixels, then a flat one; two bytes more follow the file.
+const TWO_ROWS: &[u8] = &[
+    b'#', b'?', b'R', b'G', b'B', b'E', b'\n', b'\n', // 8 bytes
+    b'-', b'Y', b' ', b'2', b' ', b'+', b'X', b' ', b'8', b'\n', // 18
+    2, 2, 0, 8, // the mark of a coded row of 8: 22
+    136, 128, // red: eight times 128: 24
+    8, 0, 1, 2, 3, 4, 5, 6, 7, // green: eight literals: 33
+    132, 64, 4, 32, 32, 16, 16, // blue: four times 64, four literals: 40
+    135, 129, 1, 136, // exponents: seven times 129, then 136: 44
+    1, 2, 3, 136, 1, 2, 3, 136, 1, 2, 3, 136, 1, 2, 3, 136, // a flat row: 60
+    1, 2, 3, 136, 1, 2, 3, 136, 1, 2, 3, 136, 255, 255, 255, 0, // 76
+    9, 9,
+];
+
+/// At exponent byte 129 a mantissa is worth 1/128, at 136 it is worth 1, at 0 nothing.
+#[rustfmt::skip]
+const TWO_ROWS_SAMPLES: [f32; 48] = [
+    1.0, 0.0 / 128.0, 0.5, 1.0, 1.0 / 128.0, 0.5, 1.0, 2.0 / 128.0, 0.5, 1.0, 3.0 / 128.0, 0.5,
+    1.0, 4.0 / 128.0, 0.25, 1.0, 5.0 / 128.0, 0.25, 1.0, 6.0 / 128.0, 0.125, 128.0, 7.0, 16.0,
+    1.0, 2.0, 3.0, 1.0, 2.0, 3.0, 1.0, 2.0, 3.0, 1.0, 2.0, 3.0,
+    1.0, 2.0, 3.0, 1.0, 2.0, 3.0, 1.0, 2.0, 3.0, 0.0, 0.0, 0.0,
+];
+
+/// What a file of ours starts with; the height, the width and the pixels follow.
+const LINES: &str = "#?RADIANCE\nSOFTWARE=zune-hdr\nFORMAT=32-bit_rle_rgbe\n\n-Y ";
+
+/// 2^127, the least sample that no file holds.
+const TOO_BRIGHT: f32 = 170141183460469231731687303715884105728.0;
+
+/// The refusal of a file that is read with room for everything.
+fn refusal(file: &str) -> HdrError {
+    HdrDecoder::new(file).decode().unwrap_err()
+}
+
+#[test]
+fn coded_and_flat_rows_are_read() {
+    let mut decoder = HdrDecoder::new(TWO_ROWS);
+    assert_eq!(decoder.dimensions(), None);
+    assert_eq!(decoder.output_buffer_size(), None);
+    decoder.decode_headers().unwrap();
+    assert_eq!(decoder.dimensions(), Some((8, 2)));
+    assert_eq!(decoder.header_size(), Some(18));
+    assert_eq!(decoder.output_buffer_size(), Some(48));
+    assert_eq!(decoder.row_store_size(), Some(32));
+    assert_eq!(decoder.decode().unwrap(), TWO_ROWS_SAMPLES);
+}
+
+#[test]
+fn bytes_taken_end_before_what_follows_and_so_does_the_output() {
+    let mut out = [7.0; 50];
+    let mut decoder = HdrDecoder::new(TWO_ROWS);
+    assert_eq!(decoder.decode_into(&mut out), Ok(76));
+    assert_eq!(out[..48], TWO_ROWS_SAMPLES);
+    assert_eq!(out[48..], [7.0, 7.0]);
+}
+
+#[test]
+fn the_row_store_can_be_lent() {
+    let mut out = [7.0; 48];
+    let mut store = [5; 33];
+    let taken = HdrDecoder::new(TWO_ROWS).decode_with(&mut out, &mut store);
+    assert_eq!(taken, Ok(76));
+    assert_eq!(out, TWO_ROWS_SAMPLES);
+    assert_eq!(store[..32], TWO_ROWS[44..76]);
+    assert_eq!(store[32], 5);
+}
+
+#[test]
+fn the_other_axes_and_comments_are_read() {
+    let file =
+        b"#?RADIANCE\n# a comment\nEXPOSURE=2\n\n+X 2 -Y 1\n\x80\x40\x20\x81\x01\x02\x03\x88";
+    let mut decoder = HdrDecoder::new(file);
+    assert_eq!(decoder.decode().unwrap(), [1.0, 0.5, 0.25, 1.0, 2.0, 3.0]);
+    assert_eq!(decoder.dimensions(), Some((2, 1)));
+}
+
+#[test]
+fn no_rows_are_no_samples() {
+    assert_eq!(
+        HdrDecoder::new("#?RGBE\n\n-Y 0 +X 3\n").decode(),
+        Ok(vec![])
+    );
+}
+
+#[test]
+fn a_file_is_refused_by_number() {
+    assert_eq!(refusal(""), HdrError::FirstLine);
+    assert_eq!(refusal("P6\n\n-Y 1 +X 1\n"), HdrError::FirstLine);
+    assert_eq!(refusal("#?RGBE\n\n+Y 1 +X 1\n"), HdrError::Axes);
+    assert_eq!(refusal("#?RGBE\n\n-Y -1 +X 1\n"), HdrError::Size);
+    assert_eq!(refusal("#?RGBE\n\n-Y 65536 +X 65536\n"), HdrError::TooHigh);
+    assert_eq!(refusal("#?RGBE\n\n-Y 1 +X 65536\n"), HdrError::TooWide);
+    assert_eq!(refusal("#?RGBE\n\n-Y 1 +X 0\n"), HdrError::NoWidth);
+    assert_eq!(
+        refusal("#?RGBE\n\n-Y 1 +X 1\n123"),
+        HdrError::BytesEnd { row: 0 }
+    );
+}
+
+#[test]
+fn limits_are_kept() {
+    let limited = |width, height| {
+        let options = DecoderOptions::default()
+            .set_max_width(width)
+            .set_max_height(height);
+        HdrDecoder::new_with_options(TWO_ROWS, options).decode_headers()
+    };
+    assert_eq!(limited(8, 2), Ok(()));
+    assert_eq!(limited(8, 1), Err(HdrError::TooHigh));
+    assert_eq!(limited(7, 2), Err(HdrError::TooWide));
+}
+
+#[test]
+fn memory_that_is_too_short_is_left_as_it_was_lent() {
+    let mut out = [7.0; 48];
+    let mut store = [5; 32];
+    let decoder = HdrDecoder::new(TWO_ROWS);
+    let short_output = decoder.decode_with(&mut out[..47], &mut store);
+    assert_eq!(short_output, Err(HdrError::ShortOutput));
+    let short_store = decoder.decode_with(&mut out, &mut store[..31]);
+    assert_eq!(short_store, Err(HdrError::ShortStore));
+    assert_eq!(out, [7.0; 48]);
+    assert_eq!(store, [5; 32]);
+}
+
+#[test]
+fn rows_before_the_end_of_the_bytes_stay() {
+    let mut out = [7.0; 48];
+    let mut decoder = HdrDecoder::new(&TWO_ROWS[..75]);
+    let answer = decoder.decode_into(&mut out);
+    assert_eq!(answer, Err(HdrError::BytesEnd { row: 1 }));
+    assert_eq!(out[..24], TWO_ROWS_SAMPLES[..24]);
+    assert_eq!(out[24..], [7.0; 24]);
+}
+
+#[test]
+fn a_flat_frame_is_written_byte_by_byte() {
+    let samples = [1.0, 0.5, 0.25, 0.003, 0.003, 0.003];
+    let encoder = HdrEncoder::new(&samples, EncoderOptions::new(2, 1));
+    let mut expected = format!("{LINES}1 +X 2\n").into_bytes();
+    expected.extend([128, 64, 32, 129, 196, 196, 196, 120]);
+    let mut file = Vec::with_capacity(encoder.expected_buffer_size().unwrap());
+    assert_eq!(encoder.encode(&mut file), Ok(71));
+    assert_eq!(file, expected);
+    assert_eq!(encoder.encode(&mut file), Ok(71));
+    assert_eq!(file, [expected.clone(), expected].concat());
+}
+
+#[test]
+fn coded_pixels_are_written_byte_by_byte() {
+    // in each channel two 5s and six 9s: runs of 2 and 6
+    let pixels = [[5; 8].as_slice(), &[9; 24]].concat();
+    let encoder = HdrEncoder::new_from_rgbe(&pixels, EncoderOptions::new(8, 1));
+    let mut expected = format!("{LINES}1 +X 8\n").into_bytes();
+    expected.extend([2, 2, 0, 8]);
+    expected.extend([130, 5, 134, 9].repeat(4));
+    let mut out = [77; 85];
+    assert_eq!(encoder.exact_size(), Ok(83));
+    assert_eq!(encoder.encode_into(&mut out), Ok(83));
+    assert_eq!(out[..83], expected);
+    assert_eq!(out[83..], [77, 77]);
+}
+
+#[test]
+fn what_is_written_is_read_back() {
+    // eighths below 32 in every order: each is a whole number of steps of its pixel
+    let samples: Vec<f32> = (0..3 * 20 * 11)
+        .map(|i| (i * 37 % 256) as f32 / 8.0)
+        .collect();
+    let mut file = Vec::new();
+    HdrEncoder::new(&samples, EncoderOptions::new(20, 11))
+        .encode(&mut file)
+        .unwrap();
+    let mut decoder = HdrDecoder::new(&file);
+    assert_eq!(decoder.decode().unwrap(), samples);
+    assert_eq!(decoder.dimensions(), Some((20, 11)));
+    assert_eq!(decoder.decode_into(&mut [0.0; 660]), Ok(file.len()));
+}
+
+#[test]
+fn the_worst_file_passes_the_guess() {
+    // 1 and 2.5 in turn: no byte equals the next, so that a channel of 8 takes 9 bytes
+    let samples: Vec<f32> = (0..8 * 120)
+        .flat_map(|i| [[1.0; 3], [2.5; 3]][i % 2])
+        .collect();
+    let encoder = HdrEncoder::new(&samples, EncoderOptions::new(8, 120));
+    assert_eq!(encoder.expected_buffer_size(), Some(8 * 120 * 4 + 1024));
+    assert_eq!(encoder.worst_size(), Ok(61 + 3 + 1 + 120 * (4 + 4 * 9)));
+    assert_eq!(encoder.exact_size(), Ok(4865));
+    assert_eq!(encoder.encode_into(&mut [0; 4865]), Ok(4865));
+    assert_eq!(encoder.encode_into(&mut [0; 4864]), Err(HdrError::NoRoom));
+}
+
+#[test]
+fn a_frame_is_refused_by_number_and_the_output_is_left() {
+    let frame = |samples: &[f32], width, height| {
+        let mut out = [77; 70];
+        let encoder = HdrEncoder::new(samples, EncoderOptions::new(width, height));
+        let answer = encoder.encode_into(&mut out);
+        assert_eq!(out, [77; 70]);
+        let mut file = vec![1, 2];
+        if answer != Err(HdrError::NoRoom) {
+            assert_eq!(encoder.encode(&mut file), answer);
+            assert_eq!(file, [1, 2]);
+        }
+        answer.unwrap_err()
+    };
+    assert_eq!(frame(&[], 0, 65_536), HdrError::NoWidth);
+    assert_eq!(frame(&[], 65_536, 1), HdrError::OverLimit);
+    assert_eq!(frame(&[0.0; 4], 1, 1), HdrError::WrongLength);
+    let bright = [
+        0.0,
+        0.0,
+        0.0,
+        f32::NAN,
+        -1.0,
+        TOO_BRIGHT,
+        f32::INFINITY,
+        0.0,
+        0.0,
+    ];
+    assert_eq!(frame(&bright, 1, 3), HdrError::TooBright { pixel: 1 });
+    assert_eq!(frame(&[0.0; 6], 2, 1), HdrError::NoRoom);
+}
+
+#[test]
+fn sizes_that_pass_2_to_the_64_are_none() {
+    let of = |width, height| HdrEncoder::new(&[], EncoderOptions::new(width, height));
+    assert_eq!(of(usize::MAX, 2).expected_buffer_size(), None);
+    assert_eq!(of(1 << 62, 1).expected_buffer_size(), None);
+    assert_eq!(
+        of((1 << 62) - 257, 1).expected_buffer_size(),
+        Some(usize::MAX - 3)
+    );
+    assert_eq!(of(0, 0).expected_buffer_size(), Some(1024));
+}
+
+#[test]
+fn one_pixel_goes_to_bytes_and_back() {
+    assert_eq!(pixel_from_bytes([128, 64, 32, 129]), [1.0, 0.5, 0.25]);
+    assert_eq!(pixel_from_bytes([255, 255, 255, 0]), [0.0; 3]);
+    assert_eq!(pixel_to_bytes([0.003; 3]), Ok([196, 196, 196, 120]));
+    assert_eq!(pixel_to_bytes([f32::NAN, -1.0, 1.0]), Ok([0, 0, 128, 129]));
+    let below = f32::from_bits(TOO_BRIGHT.to_bits() - 1);
+    assert_eq!(pixel_to_bytes([below, 0.0, 0.0]), Ok([255, 0, 0, 255]));
+    let bright = HdrError::TooBright { pixel: 0 };
+    assert_eq!(pixel_to_bytes([TOO_BRIGHT, 0.0, 0.0]), Err(bright));
+}
+
+#[test]
+fn refusals_have_numbers_places_and_words() {
+    let short = HdrDecoder::new(&TWO_ROWS[..75]).decode().unwrap_err();
+    assert_eq!((short.number(), short.place()), (9, 1));
+    assert_eq!(short.to_string(), "refusal 9: the file ends in row 1");
+    let first = refusal("");
+    assert_eq!((first.number(), first.place()), (1, 0));
+    assert_eq!(
+        first.to_string(),
+        "refusal 1: this is no Radiance file, its first line is wrong"
+    );
+    let bright = HdrError::TooBright { pixel: 4 };
+    assert_eq!((bright.number(), bright.place()), (12, 4));
+}
+
+#[test]
+fn threads_read_side_by_side() {
+    let threads: Vec<_> = (0..4)
+        .map(|_| std::thread::spawn(|| HdrDecoder::new(TWO_ROWS).decode().unwrap()))
+        .collect();
+    for thread in threads {
+        assert_eq!(thread.join().unwrap(), TWO_ROWS_SAMPLES);
+    }
+}

@@ -1,0 +1,136 @@
+/*
+ * Doorwhisp reads and writes Radiance HDR pictures. Each call below is proved, on every input, to do what the
+ * definitions in crates/doorwhisp/specs say.
+ *
+ * Link with target/staticlib/libdoorwhisp.a, which `rt staticlib doorwhisp` makes. It is for x86-64 Linux and needs
+ * nothing but `memset` of the C library: no -lm, no start-up call.
+ *
+ * THE ANSWER. Most calls fill five numbers that the caller lends; `answer` is the last parameter.
+ *
+ *     answer[0]   0, or the number of the refusal (see the list below)
+ *     answer[1]   the row or the pixel that the refusal names, from 0; else 0
+ *     answer[2]   the first value: the width, or a length
+ *     answer[3]   the second value: the height, else 0
+ *     answer[4]   the third value: how many bytes of the input were taken, else 0
+ *
+ * After a refusal the three values are 0.
+ *
+ * LENT MEMORY. A list is a pointer to its first element and the count of its elements (not of bytes). A refusal
+ * changes nothing in it, but for 9, which leaves the rows before it in the output. Beyond a result nothing is changed.
+ *
+ * THE CALLER sees to it that
+ *   - each pointer is not null and is aligned for its type, also where the count is 0 (nothing is then read or
+ *     written through it, so any address that is not null will do);
+ *   - what a call writes (out, store, answer, samples or bytes of one pixel) overlaps nothing else that it is lent,
+ *     and no other thread uses it during the call;
+ *   - floating point is as a program starts with it: rounding to nearest, no flush to zero.
+ * Any contents are allowed: all bytes, all samples (no numbers and infinities too), all sizes and limits.
+ *
+ * No call keeps a pointer, has state, asks for memory, fails in another way than by its number, or never ends; any
+ * thread may call at any time. doorwhisp_length and doorwhisp_write use 131,072 bytes of stack and a little more,
+ * the others less than 4,096.
+ *
+ * SAMPLES are three floats to a pixel, row by row from the top, red, green, blue. A four-byte pixel is three
+ * mantissas and the exponent byte.
+ */
+#ifndef DOORWHISP_H
+#define DOORWHISP_H
+
+#include <stddef.h>
+#include <stdint.h>
+
+#ifdef __cplusplus
+extern "C" {
+#endif
+
+/* The numbers of the refusals. Of several that apply, the one that comes first in its call's list is answered. */
+enum doorwhisp_refusal {
+    DOORWHISP_FIRST_LINE = 1,    /* the first line is neither #?RADIANCE nor #?RGBE */
+    DOORWHISP_AXES = 2,          /* the axes are neither -Y h +X w nor +X w -Y h */
+    DOORWHISP_SIZE = 3,          /* the height or the width is no number below 2^64 */
+    DOORWHISP_TOO_HIGH = 4,      /* the height is over the limit */
+    DOORWHISP_TOO_WIDE = 5,      /* the width is over the limit */
+    DOORWHISP_SHORT_OUTPUT = 6,  /* the output has fewer than 3 * width * height samples */
+    DOORWHISP_NO_WIDTH = 7,      /* the width is 0 */
+    DOORWHISP_SHORT_STORE = 8,   /* the row store has fewer than 4 * width bytes */
+    DOORWHISP_BYTES_END = 9,     /* the bytes end too early, in the row that answer[1] names */
+    DOORWHISP_OVER_LIMIT = 10,   /* writing: the width or the height is over 65,535 */
+    DOORWHISP_WRONG_LENGTH = 11, /* writing: the frame has not 3 samples (4 bytes) to a pixel */
+    DOORWHISP_TOO_BRIGHT = 12,   /* writing: the pixel that answer[1] names has a sample of 2^127 or more */
+    DOORWHISP_NO_ROOM = 13,      /* writing: the file is longer than the output */
+    DOORWHISP_NONE = 255         /* the two buffer sizes alone: the number passes 2^64 - 1 */
+};
+
+/* ---- Reading ---- */
+
+/*
+ * Reads the header at the start of the bytes: width, height, and how many bytes the header takes.
+ * `widest` and `highest` are the largest width and height that the caller wants; above 65,535 they count as 65,535.
+ * Refusals: 1, 2, 3, 4, 5.
+ */
+void doorwhisp_read_header(const uint8_t *bytes, size_t bytes_length, size_t widest, size_t highest, uint64_t answer[5]);
+
+/*
+ * Reads a whole file: its samples into the start of `out`, by way of `store`, which holds one row. Answers width,
+ * height, and how many bytes the file took; bytes may follow.
+ * `out` needs 3 * width * height samples, `store` 4 * width bytes: ask doorwhisp_read_header first.
+ * Refusals: 1, 2, 3, 4, 5, 6, 7, 8, 9. Refusal 9 in row k leaves rows 0 to k - 1 in `out` and the rest of it as it
+ * was lent; `store` then holds what was read of row k over row k - 1. On success its first 4 * width bytes are the
+ * last row, or 0 where there is none.
+ */
+void doorwhisp_read(const uint8_t *bytes, size_t bytes_length, size_t widest, size_t highest, float *out,
+                    size_t out_length, uint8_t *store, size_t store_length, uint64_t answer[5]);
+
+/*
+ * How many samples a frame has: 3 * width * height in answer[2]; or answer[0] is DOORWHISP_NONE, where that passes
+ * 2^64 - 1.
+ */
+void doorwhisp_output_buffer_size(size_t width, size_t height, uint64_t answer[5]);
+
+/* ---- Writing: the frame is `samples`, or, in the calls whose names end in 4, four-byte `pixels` ---- */
+
+/*
+ * How long the file of the frame is, to the byte: answer[2].
+ * Refusals: 7, 10, 11, 12 (12 not for four-byte pixels).
+ */
+void doorwhisp_length(size_t width, size_t height, const float *samples, size_t samples_length, uint64_t answer[5]);
+void doorwhisp_length4(size_t width, size_t height, const uint8_t *pixels, size_t pixels_length, uint64_t answer[5]);
+
+/*
+ * The length that no file of that width and height passes, and that some file has: answer[2].
+ * Refusals: 7, 10.
+ */
+void doorwhisp_worst(size_t width, size_t height, uint64_t answer[5]);
+
+/*
+ * Writes the file of the frame to the start of `out`; its length is answer[2]. Room for the worst length is always
+ * enough, and then the length is not counted first.
+ * Refusals: 7, 10, 11, 12, 13 (12 not for four-byte pixels); each leaves `out` as it was lent.
+ */
+void doorwhisp_write(size_t width, size_t height, const float *samples, size_t samples_length, uint8_t *out,
+                     size_t out_length, uint64_t answer[5]);
+void doorwhisp_write4(size_t width, size_t height, const uint8_t *pixels, size_t pixels_length, uint8_t *out,
+                      size_t out_length, uint64_t answer[5]);
+
+/*
+ * zune-hdr's guess at the length of a file, 4 * width * height + 1024, in answer[2]; or answer[0] is DOORWHISP_NONE,
+ * where that passes 2^64 - 1. Some files are longer: doorwhisp_worst is the length to trust.
+ */
+void doorwhisp_expected_buffer_size(size_t width, size_t height, uint64_t answer[5]);
+
+/* ---- One pixel ---- */
+
+/* The three samples of a four-byte pixel, as doorwhisp_read gives them. */
+void doorwhisp_pixel_from_bytes(uint8_t r, uint8_t g, uint8_t b, uint8_t e, float samples[3]);
+
+/*
+ * The four bytes of three samples, as doorwhisp_write stores them. Returns 0; or DOORWHISP_TOO_BRIGHT, and `bytes` is
+ * as it was lent.
+ */
+uint8_t doorwhisp_pixel_to_bytes(float r, float g, float b, uint8_t bytes[4]);
+
+#ifdef __cplusplus
+}
+#endif
+
+#endif
