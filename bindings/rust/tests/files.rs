@@ -110,9 +110,12 @@ fn limits_are_kept() {
         let options = DecoderOptions::default()
             .set_max_width(width)
             .set_max_height(height);
-        HdrDecoder::new_with_options(TWO_ROWS, options).decode_headers()
+        let mut decoder = HdrDecoder::new_with_options(TWO_ROWS, options);
+        let read = decoder.decode_with(&mut [0.0; 48], &mut [0; 32]);
+        assert_eq!(decoder.decode_headers(), read.map(|_| ()));
+        read
     };
-    assert_eq!(limited(8, 2), Ok(()));
+    assert_eq!(limited(8, 2), Ok(76));
     assert_eq!(limited(8, 1), Err(HdrError::TooHigh));
     assert_eq!(limited(7, 2), Err(HdrError::TooWide));
 }
@@ -231,6 +234,17 @@ fn a_frame_is_refused_by_number_and_the_output_is_left() {
 }
 
 #[test]
+fn a_frame_of_four_byte_pixels_is_refused_by_number() {
+    let encoder = HdrEncoder::new_from_rgbe(&[9; 12], EncoderOptions::new(3, 1));
+    assert_eq!(encoder.encode_into(&mut [0; 74]), Err(HdrError::NoRoom));
+    assert_eq!(encoder.encode_into(&mut [0; 75]), Ok(75));
+    let encoder = HdrEncoder::new_from_rgbe(&[9; 12], EncoderOptions::new(4, 1));
+    assert_eq!(encoder.exact_size(), Err(HdrError::WrongLength));
+    let out = encoder.encode_into(&mut [0; 100]);
+    assert_eq!(out, Err(HdrError::WrongLength));
+}
+
+#[test]
 fn sizes_that_pass_2_to_the_64_are_none() {
     let of = |width, height| HdrEncoder::new(&[], EncoderOptions::new(width, height));
     assert_eq!(of(usize::MAX, 2).expected_buffer_size(), None);
@@ -256,17 +270,30 @@ fn one_pixel_goes_to_bytes_and_back() {
 
 #[test]
 fn refusals_have_numbers_places_and_words() {
-    let short = HdrDecoder::new(&TWO_ROWS[..75]).decode().unwrap_err();
-    assert_eq!((short.number(), short.place()), (9, 1));
-    assert_eq!(short.to_string(), "refusal 9: the file ends in row 1");
-    let first = refusal("");
-    assert_eq!((first.number(), first.place()), (1, 0));
-    assert_eq!(
-        first.to_string(),
-        "refusal 1: this is no Radiance file, its first line is wrong"
-    );
-    let bright = HdrError::TooBright { pixel: 4 };
-    assert_eq!((bright.number(), bright.place()), (12, 4));
+    let in_order = [
+        HdrError::FirstLine,
+        HdrError::Axes,
+        HdrError::Size,
+        HdrError::TooHigh,
+        HdrError::TooWide,
+        HdrError::ShortOutput,
+        HdrError::NoWidth,
+        HdrError::ShortStore,
+        HdrError::BytesEnd { row: 3 },
+        HdrError::OverLimit,
+        HdrError::WrongLength,
+        HdrError::TooBright { pixel: 4 },
+        HdrError::NoRoom,
+    ];
+    let places = [0, 0, 0, 0, 0, 0, 0, 0, 3, 0, 0, 4, 0];
+    for (i, error) in in_order.iter().enumerate() {
+        assert_eq!(usize::from(error.number()), i + 1);
+        assert_eq!(error.place(), places[i]);
+        let start = format!("refusal {}: ", i + 1);
+        assert!(error.to_string().starts_with(&start));
+    }
+    let words = in_order[8].to_string();
+    assert_eq!(words, "refusal 9: the file ends in row 3");
 }
 
 #[test]
