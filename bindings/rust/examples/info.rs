@@ -1,0 +1,23 @@
+//! Says how large each picture is and how bright, or why it is refused: info FILE..
+
+use doorwhisp::{HdrDecoder, HdrError};
+
+/// A picture's width, height and brightest sample.
+fn look(bytes: &[u8]) -> Result<(usize, usize, f32), HdrError> {
+    let mut decoder = HdrDecoder::new(bytes);
+    let samples = decoder.decode()?;
+    let (width, height) = decoder.dimensions().unwrap_or_default();
+    Ok((width, height, samples.into_iter().fold(0.0, f32::max)))
+}
+
+fn main() -> std::io::Result<()> {
+    for name in std::env::args().skip(1) {
+        match look(&std::fs::read(&name)?) {
+            Ok((width, height, brightest)) => {
+                println!("{name}: {width} by {height} pixels, brightest sample {brightest}")
+            }
+            Err(refusal) => println!("{name}: {refusal}"),
+        }
+    }
+    Ok(())
+}
