@@ -1,0 +1,114 @@
+"""The crate's way of reading, written from document 01: the header, the rows, the samples."""
+
+import numpy
+
+
+class Refused(Exception):
+    """A refusal: its number, and the row of number 9."""
+
+
+class Input:
+    def __init__(self, data):
+        self.data, self.place, self.row = data, 0, 0
+
+    def byte(self):
+        if self.place == len(self.data):
+            raise Refused(9, self.row)
+        self.place += 1
+        return self.data[self.place - 1]
+
+    def byte_or_0(self):
+        return 0 if self.place == len(self.data) else self.byte()
+
+    def until(self, end):
+        """The bytes up to `end`, which is taken too, or to the end of the bytes."""
+        start = self.place
+        found = self.data.find(end, start)
+        self.place = len(self.data) if found < 0 else found + 1
+        return self.data[start:self.place]
+
+
+def size(field):
+    digits = field[1:] if field[:1] == b"+" else field
+    if not digits.isdigit() or int(digits) >= 2**64:
+        raise Refused(3)
+    return int(digits)
+
+
+def header(source):
+    if source.until(b"\n") not in (b"#?RADIANCE\n", b"#?RGBE\n"):
+        raise Refused(1)
+    while source.until(b"\n")[:1] not in (b"\n", b""):
+        pass
+    fields = [source.until(end).strip(b"\t\n\x0b\x0c\r ") for end in (b" ", b" ", b" ", b"\n")]
+    axes = fields[0], fields[2]
+    if axes not in ((b"-Y", b"+X"), (b"+X", b"-Y")):
+        raise Refused(2)
+    first, second = size(fields[1]), size(fields[3])
+    return (second, first) if axes[0] == b"-Y" else (first, second)
+
+
+def flat_part(source, store, start, wanted):
+    place, shift = start, 0
+    while wanted > 0:
+        for i in range(4):
+            store[place + i] = source.byte()
+        if store[place:place + 3] != b"\x01\x01\x01":
+            place, wanted, shift = place + 4, wanted - 1, 0
+            continue
+        count = store[place + 3] << shift
+        while wanted > 0 and place - start > 4 and count > 0:
+            store[start + 4:start + 8] = store[place - 4:place]
+            place, wanted, count = place + 4, wanted - 4, count - 1
+        shift += 8
+        if shift > 16:
+            return
+
+
+def channel(source, store, i, width):
+    x = 0
+    while x < width:
+        count = source.byte()
+        run = count > 128
+        value = source.byte_or_0() if run else 0
+        for _ in range(min(count - 128 if run else count, width - x)):
+            store[4 * x + i] = value if run else source.byte_or_0()
+            x += 1
+
+
+def row(source, store, width):
+    if not 8 <= width <= 32767 or source.data[source.place:source.place + 1] != b"\x02":
+        return flat_part(source, store, 0, width)
+    source.byte()
+    store[1] = source.byte()
+    store[2] = source.byte()
+    fourth = source.byte()
+    if store[1] != 2 or store[2] >= 128:
+        store[0], store[3] = 2, fourth
+        return flat_part(source, store, 4, width - 1)
+    for i in range(4):
+        channel(source, store, i, width)
+
+
+def sample(m, e):
+    if e == 0:
+        return 0.0
+    d = e - 128
+    k = abs(d) % 32
+    return m * 2.0 ** (k - 8 if d > 0 else -k - 8)
+
+
+def read(data, limit):
+    """Width, height and samples; or a refusal is raised. Output and row store are taken to be enough."""
+    source = Input(data)
+    width, height = header(source)
+    if height > limit or width > limit:
+        raise Refused(4 if height > limit else 5)
+    if width == 0:
+        raise Refused(7)
+    store, samples = bytearray(4 * width), []
+    for source.row in range(height):
+        row(source, store, width)
+        for x in range(width):
+            samples += [sample(m, store[4 * x + 3]) for m in store[4 * x:4 * x + 3]]
+    return width, height, numpy.array(samples, numpy.float32)

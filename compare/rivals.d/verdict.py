@@ -1,0 +1,99 @@
+"""A few words for what a program did with a file."""
+
+import numpy
+
+import crate
+from papers import lower_edge, middle
+
+VALUES = ((lower_edge, ""), (middle, ", middle"))
+
+
+def expected(case, value):
+    """The picture's samples by one of the two document values, and no number where the file holds no pixel."""
+    quads = b"".join(p or bytes(4) for p in case.pixels)
+    samples = value(quads, (case.height, case.width)).reshape(-1)
+    samples[numpy.repeat([p is None for p in case.pixels], 3)] = numpy.nan
+    return samples
+
+
+def same(found, wanted):
+    """Equal wherever a sample is wanted."""
+    return len(found) == len(wanted) and bool(numpy.all((found == wanted) | numpy.isnan(wanted)))
+
+
+def by_crate(case, done, limit=2**32):
+    """Whether the reading is the one of the crate's rule under a limit for both sizes."""
+    try:
+        width, height, samples = crate.read(case.data, limit)
+    except crate.Refused:
+        return done.how == "error"
+    return done.how == "ok" and (done.width, done.height) == (width, height) and same(done.samples, samples)
+
+
+def invented(case, done):
+    """What stands where the file holds no pixel."""
+    gone = numpy.array([p is None for p in case.pixels])
+    frame = done.samples.reshape(-1, 3)
+    if done.unset.any():
+        return "memory never set"
+    if not frame[gone].any():
+        return "black"
+    first = numpy.flatnonzero(gone)[0]
+    if first > 0 and (frame[gone] == frame[first - 1]).all():
+        return "copies of the last pixel"
+    return "light that is not in the file"
+
+
+def stored_order(case, done):
+    """Words for a picture whose pixels stand as they are stored; none if they do not."""
+    for value, name in VALUES:
+        if not same(done.samples, value(b"".join(case.stored), (1, len(case.stored))).reshape(-1)):
+            continue
+        words = f"stored order, {done.width} by {done.height}{name}"
+        if done.turned:
+            right = done.turned[:2] == (case.width, case.height) and same(done.turned[2], expected(case, value))
+            words += f"; says orientation {done.turn}, its own turning gives {'the document picture' if right else 'another picture'}"
+        return words
+    return None
+
+
+def accepted(case, done, name):
+    """Words for a picture that has all pixels which are in the file."""
+    warned = ", with a warning" if done.warning else ""
+    if None in case.pixels:
+        return f"accepted{warned}; missing pixels: {invented(case, done)}"
+    if case.damaged:
+        return "accepted" + warned + (", read to the header's width" if case.group != "header" else "")
+    return case.word + name + warned
+
+
+def apart(case, done):
+    """How a picture differs from the document's."""
+    warned = ", with a warning" if done.warning else ""
+    if (done.width, done.height) != (case.width, case.height):
+        return f"accepted as {done.width} by {done.height}{warned}"
+    if not done.samples.any():
+        return f"all {case.width * case.height} pixels black{warned}"
+    counts = []
+    for value, name in VALUES:
+        wanted = expected(case, value)
+        wrong = ~((done.samples == wanted) | numpy.isnan(wanted))
+        near = wrong & (abs(done.samples - wanted) <= abs(wanted) * 2.0**-23)
+        if near.sum() == wrong.sum():
+            return f"document{name}, {wrong.sum()} of {len(wrong)} samples one unit off"
+        counts.append(int(wrong.reshape(-1, 3).any(1).sum()))
+    return f"other samples in {min(counts)} of {case.width * case.height} pixels{warned}" + (", memory never set among them" if done.unset.any() else "")
+
+
+def called(case, done):
+    if done.how != "ok":
+        return done.words if done.how == "late" else f"{done.how}: {done.words}"
+    if (done.width, done.height) == (case.width, case.height):
+        for value, name in VALUES:
+            if same(done.samples, expected(case, value)):
+                return accepted(case, done, name)
+    if case.group == "axes" and stored_order(case, done):
+        return stored_order(case, done)
+    if by_crate(case, done):
+        return "crate rule"
+    return apart(case, done)
