@@ -19,16 +19,18 @@ class Run:
 
 def run(program, *words, fill=FILLS[0], **settings):
     environment = dict(os.environ, MALLOC_PERTURB_=str(fill), FILL=str(fill), **settings)
+    process = subprocess.Popen([*program, *map(str, words)], stdout=subprocess.PIPE, stderr=subprocess.PIPE, env=environment, start_new_session=True)
     try:
-        done = subprocess.run([*program, *map(str, words)], stdout=subprocess.PIPE, stderr=subprocess.PIPE, env=environment, timeout=LIMIT)
+        said, complaint = (text.decode(errors="replace") for text in process.communicate(timeout=LIMIT))
     except subprocess.TimeoutExpired:
+        os.killpg(process.pid, signal.SIGKILL)
+        process.communicate()
         return Run("late", f"no end within {LIMIT} s")
-    if done.returncode < 0:
-        return Run("crash", signal.Signals(-done.returncode).name)
-    said = done.stdout.decode(errors="replace").strip()
-    how, _, rest = said.partition(" ")
-    if done.returncode != 0 or how not in ("ok", "error"):
-        return Run("crash", " ".join((said + " " + done.stderr.decode(errors="replace")).split())[:200])
+    if process.returncode < 0:
+        return Run("crash", signal.Signals(-process.returncode).name)
+    how, _, rest = said.strip().partition(" ")
+    if process.returncode != 0 or how not in ("ok", "error"):
+        return Run("crash", " ".join((said + " " + complaint).split())[:200])
     return Run(how, " ".join(rest.split()))
 
 

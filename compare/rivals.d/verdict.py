@@ -25,8 +25,10 @@ def by_crate(case, done, limit=2**32):
     """Whether the reading is the one of the crate's rule under a limit for both sizes."""
     try:
         width, height, samples = crate.read(case.data, limit)
-    except crate.Refused:
-        return done.how == "error"
+    except crate.Refused as refused:
+        number, *row = refused.args
+        words = f"refusal {number}" + "".join(f" in row {y}" for y in row)
+        return done.how == "error" and done.words == (words if done.words.startswith("refusal") else done.words)
     return done.how == "ok" and (done.width, done.height) == (width, height) and same(done.samples, samples)
 
 
