@@ -130,12 +130,14 @@ pub fn expected_buffer_size(width: usize, height: usize) -> Option<usize> {
     amount(|answer| unsafe { doorwhisp_expected_buffer_size(width, height, answer) })
 }
 
+/// The three samples of a four-byte pixel: three mantissas and the exponent byte.
 pub fn pixel_from_bytes([r, g, b, e]: [u8; 4]) -> [f32; 3] {
     let mut samples = [0.0; 3];
     unsafe { doorwhisp_pixel_from_bytes(r, g, b, e, &mut samples) };
     samples
 }
 
+/// The four bytes that three samples are written as, or that they are too bright.
 pub fn pixel_to_bytes([r, g, b]: [f32; 3]) -> Result<[u8; 4], HdrError> {
     let mut bytes = [0; 4];
     match unsafe { doorwhisp_pixel_to_bytes(r, g, b, &mut bytes) } {
