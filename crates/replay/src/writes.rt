@@ -6,6 +6,7 @@ use fields::text::Step;
 use steps::amount::Amount;
 use writer::WriteAnswer;
 ghost use Prim.Native.Nat.{_≤_};
+ghost use Rattle.replay.specs.Room.{Within};
 
 // A number, or `none`.
 fn put_amount(page: &mut [u8; 65536], put: usize, amount: Amount) -> usize
@@ -149,6 +150,19 @@ fn answer_bytes(
     print::bytes(page, p, out)
 }
 
+// The room that the field from `at` on asks for, at most `most`, and the place where the next field starts.
+fn room_at(line: &[u8], at: usize, most: usize) -> Step
+    ensures { λ r. ⌜ Within most r ⌝ }
+{
+    let Step::Found { n, next } = text::number_at(line, at) else {
+        return Step::Nothing;
+    };
+    if most < n {
+        return Step::Nothing;
+    }
+    Step::Found { n, next }
+}
+
 // `write W H OUTLEN SAMPLES`, the fields from OUTLEN on from `at` on.
 pub(crate) fn write(
     line: &[u8],
@@ -163,12 +177,9 @@ pub(crate) fn write(
     requires { ⌜ put ≤ 65536 ⌝ }
     ensures { λ r. ⌜ r ≤ 65536 ⌝ }
 {
-    let Step::Found { n: room, next } = text::number_at(line, at) else {
+    let Step::Found { n: room, next } = room_at(line, at, lent.len()) else {
         return print::unknown(page, put);
     };
-    if lent.len() < room {
-        return print::unknown(page, put);
-    }
     let count = hex::samples_at(line, next, samples);
     match count {
         Number::Is(n) => {
@@ -192,12 +203,9 @@ pub(crate) fn write4(
     requires { ⌜ put ≤ 65536 ⌝ }
     ensures { λ r. ⌜ r ≤ 65536 ⌝ }
 {
-    let Step::Found { n: room, next } = text::number_at(line, at) else {
+    let Step::Found { n: room, next } = room_at(line, at, lent.len()) else {
         return print::unknown(page, put);
     };
-    if lent.len() < room {
-        return print::unknown(page, put);
-    }
     let count = hex::bytes_at(line, next, bytes);
     match count {
         Number::Is(n) => answer_bytes(width, height, &bytes[..n], &mut lent[..room], page, put),

@@ -2,11 +2,12 @@
 use borrow.Author.Needs.{needs}
 use Rattle.fields.proofs.Laws.Filled.{front}
 use Rattle.hex.proofs.Laws.Hex.{samples-fit}
+use Rattle.replay.proofs.Laws.Room.{room-fits}
 use Rattle.replay.proofs.writes.write.Statement.{statement}
 use Rattle.replay.proofs.writes.write.Tie as tie
 
-number-at-requires : tie.Need-number-at-requires
-number-at-requires c κs = search needs
+room-at-requires : tie.Need-room-at-requires
+room-at-requires c κs = search needs
 
 enum-known-room : tie.Need-enum-known-room
 enum-known-room c = search needs
@@ -19,12 +20,6 @@ unknown-requires c κs = search needs
 
 returns : tie.Need-returns
 returns c = search needs
-
-unknown-requires-2 : tie.Need-unknown-requires-2
-unknown-requires-2 c κs = search needs
-
-returns-2 : tie.Need-returns-2
-returns-2 c = search needs
 
 samples-at-requires : tie.Need-samples-at-requires
 samples-at-requires c κs = search needs
@@ -39,10 +34,10 @@ slice-aggregate-answer-samples : tie.Need-slice-aggregate-answer-samples
 slice-aggregate-answer-samples c = search (front, samples-fit)
 
 slice-relend-prefix-answer-samples : tie.Need-slice-relend-prefix-answer-samples
-slice-relend-prefix-answer-samples c = search needs
+slice-relend-prefix-answer-samples c = search room-fits
 
 slice-aggregate-answer-samples-2 : tie.Need-slice-aggregate-answer-samples-2
-slice-aggregate-answer-samples-2 c = search front
+slice-aggregate-answer-samples-2 c = search (front, room-fits)
 
 answer-samples-requires : tie.Need-answer-samples-requires
 answer-samples-requires c κs = search needs
@@ -50,8 +45,8 @@ answer-samples-requires c κs = search needs
 enum-told-2 : tie.Need-enum-told-2
 enum-told-2 c = search needs
 
-unknown-requires-3 : tie.Need-unknown-requires-3
-unknown-requires-3 c κs = search needs
+unknown-requires-2 : tie.Need-unknown-requires-2
+unknown-requires-2 c κs = search needs
 
 same-length : tie.Need-same-length
 same-length c = search needs
@@ -59,26 +54,24 @@ same-length c = search needs
 same-length-2 : tie.Need-same-length-2
 same-length-2 c = search needs
 
-returns-3 : tie.Need-returns-3
-returns-3 c = search needs
+returns-2 : tie.Need-returns-2
+returns-2 c = search needs
 
 same-length-3 : tie.Need-same-length-3
 same-length-3 c = search needs
 
-returns-4 : tie.Need-returns-4
-returns-4 c = search needs
+returns-3 : tie.Need-returns-3
+returns-3 c = search needs
 
 pub write-spec : {M : Type 1} → statement M
 write-spec =
     tie.close
     (tie.spec
-    number-at-requires
+    room-at-requires
     enum-known-room
     enum-told
     unknown-requires
     returns
-    unknown-requires-2
-    returns-2
     samples-at-requires
     enum-known-count
     slice-reshare-prefix-answer-samples
@@ -87,9 +80,9 @@ write-spec =
     slice-aggregate-answer-samples-2
     answer-samples-requires
     enum-told-2
-    unknown-requires-3
+    unknown-requires-2
     same-length
     same-length-2
-    returns-3
+    returns-2
     same-length-3
-    returns-4)
+    returns-3)

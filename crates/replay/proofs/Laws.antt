@@ -1,0 +1,2 @@
+-- The law of the definition in `specs/`.
+pub mod Room
