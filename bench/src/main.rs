@@ -1,0 +1,156 @@
+//! Reads and writes skies by this project and by the Rust, to be measured. In the folder that it is run in:
+//!   bench make SKY             both write and read the sky, what they give is compared, and it is kept as SKY.f32 and SKY.hdr
+//!   bench WHO WHAT SKY FRAMES  that many frames by `ours` or `rust`: decode, encode, exact (encode into room for no byte more)
+//!   bench time WHAT SKY        nanoseconds per pixel, ours and the Rust's: the best of ROUNDS turns of each
+
+mod skies;
+
+use skies::{HEIGHT, WIDTH};
+use std::fs;
+use std::time::Instant;
+use zune_core::bit_depth::BitDepth;
+use zune_core::bytestream::ZCursor;
+use zune_core::colorspace::ColorSpace;
+use zune_core::options::EncoderOptions;
+use zune_hdr::{HdrDecoder, HdrEncoder};
+
+const PIXELS: usize = WIDTH * HEIGHT;
+const ROUNDS: usize = 9;
+
+/// The longest header of a frame of this size, and its rows at worst.
+const WORST: usize = 1024 + HEIGHT * (4 + 4 * (WIDTH + WIDTH / 128));
+
+#[link(name = "doorwhisp", kind = "static")]
+extern "C" {
+    fn doorwhisp_read(
+        bytes: *const u8, length: usize, widest: usize, highest: usize, out: *mut f32, out_length: usize, store: *mut u8,
+        store_length: usize, answer: *mut [u64; 5],
+    );
+    fn doorwhisp_write(
+        width: usize, height: usize, samples: *const f32, count: usize, out: *mut u8, out_length: usize, answer: *mut [u64; 5],
+    );
+}
+
+/// Our reader.
+fn read_ours(file: &[u8], out: &mut [f32]) {
+    let mut store = vec![0; 4 * WIDTH];
+    let mut answer = [1; 5];
+    unsafe {
+        doorwhisp_read(file.as_ptr(), file.len(), 65535, 65535, out.as_mut_ptr(), out.len(), store.as_mut_ptr(), store.len(), &mut answer)
+    };
+    assert_eq!(answer, [0, 0, WIDTH as u64, HEIGHT as u64, file.len() as u64], "our reader's answer");
+}
+
+/// The Rust's reader.
+fn read_rust(file: &[u8], out: &mut [f32]) {
+    let mut decoder = HdrDecoder::new(ZCursor::new(file));
+    decoder.decode_headers().expect("a header");
+    assert_eq!(decoder.dimensions(), Some((WIDTH, HEIGHT)));
+    decoder.decode_into(out).expect("a picture");
+}
+
+/// Our writer, and the length of the file.
+fn write_ours(samples: &[f32], out: &mut [u8]) -> usize {
+    let mut answer = [1; 5];
+    unsafe { doorwhisp_write(WIDTH, HEIGHT, samples.as_ptr(), samples.len(), out.as_mut_ptr(), out.len(), &mut answer) };
+    assert_eq!(answer[..2], [0, 0], "our writer's answer");
+    answer[2] as usize
+}
+
+/// The Rust's writer, and the length of the file.
+fn write_rust(samples: &[f32], out: &mut [u8]) -> usize {
+    let options = EncoderOptions::new(WIDTH, HEIGHT, ColorSpace::RGB, BitDepth::Float32);
+    HdrEncoder::new(samples, options).encode(out).expect("a file")
+}
+
+/// A sky, its file, and memory for the results that has been written to before.
+struct Bench {
+    samples: Vec<f32>,
+    file: Vec<u8>,
+    out: Vec<u8>,
+    read: Vec<f32>,
+}
+
+impl Bench {
+    fn new(sky: &str) -> Bench {
+        let kept = |kind: &str| fs::read(format!("{sky}.{kind}")).expect("bench make comes first");
+        Bench { samples: from_bytes(&kept("f32")), file: kept("hdr"), out: vec![7; WORST], read: vec![7.0; 3 * PIXELS] }
+    }
+
+    fn turn(&mut self, who: &str, what: &str) {
+        let exact = self.file.len();
+        match (who, what) {
+            ("ours", "decode") => read_ours(&self.file, &mut self.read),
+            ("rust", "decode") => read_rust(&self.file, &mut self.read),
+            ("ours", "encode") => assert_eq!(write_ours(&self.samples, &mut self.out), exact),
+            ("rust", "encode") => assert_eq!(write_rust(&self.samples, &mut self.out), exact),
+            ("ours", "exact") => assert_eq!(write_ours(&self.samples, &mut self.out[..exact]), exact),
+            ("rust", "exact") => assert_eq!(write_rust(&self.samples, &mut self.out[..exact]), exact),
+            _ => panic!("no {who} {what}"),
+        }
+    }
+
+    /// Nanoseconds per pixel of one turn.
+    fn timed(&mut self, who: &str, what: &str) -> f64 {
+        let start = Instant::now();
+        self.turn(who, what);
+        start.elapsed().as_nanos() as f64 / PIXELS as f64
+    }
+}
+
+fn to_bytes(samples: &[f32]) -> Vec<u8> {
+    samples.iter().flat_map(|x| x.to_le_bytes()).collect()
+}
+
+fn from_bytes(bytes: &[u8]) -> Vec<f32> {
+    bytes.chunks_exact(4).map(|b| f32::from_le_bytes([b[0], b[1], b[2], b[3]])).collect()
+}
+
+/// Both write the same file, byte for byte, and both read it as the same samples, bit for bit.
+fn make(sky: &str) {
+    let samples = skies::samples(sky);
+    let (mut ours, mut rust) = (vec![7; WORST], vec![9; WORST]);
+    let length = write_ours(&samples, &mut ours);
+    ours.truncate(length);
+    let length = write_rust(&samples, &mut rust);
+    rust.truncate(length);
+    assert!(ours == rust, "the files differ");
+    let file = ours;
+    let (mut ours, mut rust) = (vec![7.0; 3 * PIXELS], vec![9.0; 3 * PIXELS]);
+    read_ours(&file, &mut ours);
+    read_rust(&file, &mut rust);
+    assert!(to_bytes(&ours) == to_bytes(&rust), "the samples differ");
+    fs::write(format!("{sky}.f32"), to_bytes(&samples)).expect("room for the samples");
+    fs::write(format!("{sky}.hdr"), &file).expect("room for the file");
+    println!("{sky}: {} bytes, written alike and read alike by both", file.len());
+}
+
+fn time(what: &str, sky: &str) {
+    let mut bench = Bench::new(sky);
+    let mut best = [f64::INFINITY; 2];
+    for round in 0..=ROUNDS {
+        for (who, best) in ["ours", "rust"].iter().zip(&mut best) {
+            let t = bench.timed(who, what);
+            if round > 0 {
+                *best = best.min(t);
+            }
+        }
+    }
+    println!("{:.2} {:.2}", best[0], best[1]);
+}
+
+fn main() {
+    let words: Vec<String> = std::env::args().skip(1).collect();
+    let words: Vec<&str> = words.iter().map(String::as_str).collect();
+    match words[..] {
+        ["make", sky] => make(sky),
+        ["time", what, sky] => time(what, sky),
+        [who, what, sky, frames] => {
+            let mut bench = Bench::new(sky);
+            for _ in 0..frames.parse::<usize>().expect("a number of frames") {
+                bench.turn(who, what);
+            }
+        }
+        _ => panic!("the words are not understood"),
+    }
+}
