@@ -23,14 +23,10 @@ fn put_known(src: &[u8], p: usize, store: &mut [u8], from: usize, n: usize)
     requires { ⌜ (n ≤ length (now src) - p) × (from + 4 * n ≤ length (now store) + 3) ⌝ }
     ensures { λ _. ⌜ now (store .exit) ≡ spread 4 (now (store .entry)) from (bytesFrom (now (src .entry)) p n) ⌝ }
 {
-    let mut i = from;
-    let mut q = p;
-    let mut left = n;
-    while 0 < left {
-        store[i] = src[q];
-        i += 4;
-        q += 1;
-        left -= 1;
+    let mut k = 0;
+    while k < n {
+        store[from + 4 * k] = src[p + k];
+        k += 1;
     }
 }
 

@@ -12,3 +12,4 @@ pub mod Nearby
 pub mod Rounding
 pub mod Limits
 pub mod Bytes
+pub mod Words

@@ -13,7 +13,9 @@ ghost use Rattle.pixel.specs.Rgbe.{
   dark,
   byteOf,
   tooBright,
+  near,
   bytesOf,
+  AsWord,
   packedOf,
 };
 
@@ -40,6 +42,9 @@ pub enum Packed {
 
 // 2^127: a sample from here on is too bright.
 const TOO_BRIGHT: f32 = 170141183460469231731687303715884105728.0;
+
+// 2^126: a pixel whose samples are none above it is not too bright.
+const NEAR: f32 = 85070591730234615865843651857942052864.0;
 
 // The f32 nearest to 1e-32: a pixel whose samples are none above it is black.
 const DARK: f32 = 1e-32;
@@ -106,6 +111,13 @@ pub fn is_too_bright(p: Pixel) -> bool
     if largest(p) < TOO_BRIGHT { false } else { true }
 }
 
+// Whether a sample is above 2^126, so that it may be too bright.
+pub fn is_near(x: f32) -> bool
+    ensures { λ r. ⌜ r ≡ near x ⌝ }
+{
+    NEAR < x
+}
+
 // Whether v is above the f32 nearest to 1e-32 and below 2^127.
 fn is_coded(v: f32) -> bool
     requires { ⌜ T (bright v) ⌝ }
@@ -123,47 +135,49 @@ fn digits_of(v: f32) -> u32
 }
 
 // A number below 256, rounded down: plus 2^23 it becomes a whole number next to it, which ends the bits of the sum.
-fn round_down(y: f32) -> u8
+fn round_down(y: f32) -> u32
     requires { ⌜ T (bright y) ⌝ ∗ ⌜ mag y / 2 ^ 149 < 256 ⌝ }
     ensures { λ r. ⌜ r ≡ mag y / 2 ^ 149 ⌝ }
 {
     let sum = y + WHOLE;
     let near = f32::to_bits(sum) % 512;
-    if y < sum - WHOLE {
-        (near - 1) as u8
-    } else {
-        near as u8
-    }
+    if y < sum - WHOLE { near - 1 } else { near }
 }
 
 // A sample times 2^(8-e), rounded down, and 0 for one that is not above 0. `digits` is e + 149.
-fn byte_of(x: f32, digits: u32) -> u8
+fn byte_of(x: f32, digits: u32) -> u32
     requires { ⌜ 43 ≤ digits ⌝ ∗ ⌜ digits ≤ 276 ⌝ ∗ ⌜ mag x < 2 ^ digits ⌝ }
-    ensures { λ r. ⌜ r ≡ byteOf digits (mag x) ⌝ }
+    ensures { λ r. ⌜ (r < 256) × (r ≡ byteOf digits (mag x)) ⌝ }
 {
     round_down(brighter(0.0, x) * power(306 - digits))
+}
+
+// A pixel's four bytes as one word, the first lowest: four bytes of one word are stored at once.
+fn word_of(p: Pixel) -> u32
+    ensures { λ w. ⌜ AsWord (bytesOf p) w ⌝ }
+{
+    let v = largest(p);
+    if is_coded(v) {
+        let digits = digits_of(v);
+        let r = byte_of(p.r, digits);
+        let g = byte_of(p.g, digits);
+        let b = byte_of(p.b, digits);
+        r + g * 256 + b * 65536 + (digits - 21) * 16777216
+    } else {
+        0
+    }
 }
 
 // Three samples to four bytes, by the documents; a pixel that is too bright gives zeros.
 pub fn pack(p: Pixel) -> Rgbe
     ensures { λ r. ⌜ r ≡ bytesOf p ⌝ }
 {
-    let v = largest(p);
-    if is_coded(v) {
-        let digits = digits_of(v);
-        Rgbe {
-            r: byte_of(p.r, digits),
-            g: byte_of(p.g, digits),
-            b: byte_of(p.b, digits),
-            e: (digits - 21) as u8,
-        }
-    } else {
-        Rgbe {
-            r: 0,
-            g: 0,
-            b: 0,
-            e: 0,
-        }
+    let w = word_of(p);
+    Rgbe {
+        r: (w % 256) as u8,
+        g: (w / 256 % 256) as u8,
+        b: (w / 65536 % 256) as u8,
+        e: (w / 16777216 % 256) as u8,
     }
 }
 

@@ -35,8 +35,9 @@ fn gathered(px: &[u8], at: usize, left: usize) -> usize
     requires { ⌜ at + 4 * left < length (now px) + 4 ⌝ }
     ensures { λ r. ⌜ Gathers (channel (now (px .entry)) at left) r × Stops (now (px .entry)) at left r ⌝ }
 {
+    let stop = steps::less(left, 3);
     let mut h = 0;
-    while h + 3 < left {
+    while h < stop {
         let d = skip(px, at + 4 * h);
         if d == 0 {
             return h;
@@ -69,8 +70,9 @@ fn equal_fours(px: &[u8], at: usize, cap: usize) -> usize
     ensures { λ r. ⌜ (4 ≤ r) × (r ≤ cap) × Equal (now (px .entry)) at r ⌝ }
 {
     let v = px[at];
+    let stop = steps::less(cap, 3);
     let mut n = 4;
-    while n + 3 < cap {
+    while n < stop {
         if are_all(px, at + 4 * n, v) {
             n += 4;
         } else {

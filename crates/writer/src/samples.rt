@@ -9,7 +9,7 @@ ghost use lib.ListN.{length};
 ghost use lib.Dec.{leb};
 ghost use Rattle.steps.specs.Place.{spread};
 ghost use Rattle.runs.specs.Row.{rowOf};
-ghost use Rattle.writer.specs.Samples.{pixelAt, four, packed, firstBright};
+ghost use Rattle.writer.specs.Samples.{pixelAt, four, packed, anyNear, Passed, firstBright};
 ghost use Rattle.writer.specs.Frame.{rowsOf};
 ghost use Rattle.writer.specs.Write.{fileOf};
 
@@ -25,6 +25,33 @@ fn pixel_at(samples: &[f32], i: usize) -> Pixel
     }
 }
 
+// Whether one of n samples, the first at `from`, may be too bright.
+fn any_near(samples: &[f32], from: usize, n: usize) -> bool
+    requires { ⌜ from + n ≤ length (now samples) ⌝ }
+    ensures { λ r. ⌜ r ≡ anyNear (now (samples .entry)) from n ⌝ }
+{
+    let mut i = from;
+    let mut left = n;
+    let mut found = false;
+    while 0 < left {
+        found = found | pixel::is_near(samples[i]);
+        i += 1;
+        left -= 1;
+    }
+    found
+}
+
+// How many pixels of a row, its first from sample `from` on, need no look: all, or none where one of their samples may be too bright.
+fn passed(samples: &[f32], from: usize, width: usize) -> usize
+    requires { ⌜ from + 3 * width ≤ length (now samples) ⌝ }
+    ensures { λ r. ⌜ Passed (now (samples .entry)) from width r ⌝ }
+{
+    if any_near(samples, from, 3 * width) {
+        return 0;
+    }
+    width
+}
+
 // The first pixel, row by row, that is too bright; how many there are where none is.
 pub(crate) fn first_bright(samples: &[f32], width: usize, height: usize) -> usize
     requires { ⌜ 3 * (width * height) ≤ length (now samples) ⌝ }
@@ -33,7 +60,8 @@ pub(crate) fn first_bright(samples: &[f32], width: usize, height: usize) -> usiz
     let mut k = 0;
     let mut row = 0;
     'rows: while row < height {
-        let mut column = 0;
+        let mut column = passed(samples, 3 * k, width);
+        k += column;
         while column < width {
             if pixel::is_too_bright(pixel_at(samples, 3 * k)) {
                 break 'rows;

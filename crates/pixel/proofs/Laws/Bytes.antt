@@ -3,17 +3,17 @@ use mathlib.Core.Path.{_≡_, refl, sym, ap, _∙_, subst}
 use mathlib.Core.Bool.{Bool, true, false, not, _&&_}
 use mathlib.Core.Logic.{⊎-elim, _⊎_, inl, inr}
 use Prim.Native.Nat.{ℕ, _-_, _*_, _/_, _^_, _≤_, _<_, max}
-use native.Mathlib.Nat.{le-max-left, le-max-right, le-trans, le-of-lt, max-eq-left, max-eq-right, mul-assoc, mul-comm, mul-lt-mul-of-pos-right, div-lt-iff-lt-mul}
+use native.Mathlib.Nat.{le-max-left, le-max-right, le-trans, le-of-lt, lt-of-le-of-lt, max-eq-left, max-eq-right, mul-assoc, mul-comm, mul-lt-mul-of-pos-right, div-lt-iff-lt-mul}
 use native.Mathlib.Omega.{arith}
 use lib.Dec.{T, ltb, leb, lit<}
 use lib.Pow.{pow-pos}
-use lib.Ieee.{size}
+use lib.Ieee.{Float, size}
 use lib.Ieee.Nearest.{div-same}
-use borrow.Author.Tests.{le-leb, lt-leb, lt-ltb, le-ltb, ltb-true}
+use borrow.Author.Tests.{le-leb, lt-leb, lt-ltb, le-ltb, ltb-true, ltb-false}
 use Rattle.steps.specs.Loop.{pick}
 use Rattle.pixel.specs.declared.Pixel.{Pixel}
 use Rattle.pixel.specs.Units.{mag}
-use Rattle.pixel.specs.Rgbe.{peak, dark, byteOf, coded, black, tooBright, bytesOf}
+use Rattle.pixel.specs.Rgbe.{peak, dark, byteOf, coded, black, tooBright, near, bytesOf}
 use Rattle.pixel.proofs.Laws.Numbers.{either, pow-pow}
 
 -- ---- no sample is above the largest, and the largest is one of the three
@@ -81,6 +81,13 @@ bytes-by-test p =
 pub bright-by-test : (p : Pixel) → tooBright p ≡ not (ltb (peak p) (2 ^ 276))
 unfolding tooBright
 bright-by-test p = leb-ltb (2 ^ 276) (peak p)
+
+-- a pixel that has no sample near 2^127 is not too bright
+pub dim-pixel : (p : Pixel) → near (p .r) ≡ false → near (p .g) ≡ false → near (p .b) ≡ false → tooBright p ≡ false
+unfolding near tooBright
+dim-pixel p r g b =
+    let small : (x : Float) → ltb (2 ^ 275) (mag x) ≡ false → mag x < 2 ^ 276 = λ x e. lt-of-le-of-lt (ltb-false (2 ^ 275) (mag x) e) (lit< tt) in
+    lt-leb (2 ^ 276) (peak p) (⊎-elim (λ e. subst (λ (n : ℕ). n < 2 ^ 276) (sym e) (small (p .r) r)) (λ o. ⊎-elim (λ e. subst (λ (n : ℕ). n < 2 ^ 276) (sym e) (small (p .g) g)) (λ e. subst (λ (n : ℕ). n < 2 ^ 276) (sym e) (small (p .b) b)) o) (peak-is p))
 
 pub coded-between : (v : ℕ) → isCoded v ≡ true → (dark < v) × (v < 2 ^ 276)
 coded-between v h =

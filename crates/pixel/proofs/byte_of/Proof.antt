@@ -36,13 +36,17 @@ here c =
     subst (λ (n : ℕ). Whole (mul binary32 (z .brighter .result) (c .power .result)) (byteOf N n)) (same z)
     (scaled-whole (z .brighter .result) (c .power .result) N (passes _ (z .brighter .ok)) (z .brighter .ensures .0) (z .before .pre .1 .0) (subst (λ (n : ℕ). n < 2 ^ N) (sym (same z)) (z .before .pre .1 .1)) scale)
 
+-- a byte
+small : (c : tie.Start) → byteOf (c .args .digits) (mag (c .args .x)) < 256
+small c = byte-lt (mag (c .args .x)) (c .args .digits) (c .pre .1 .1)
+
 round-down-requires : tie.Need-round-down-requires
-round-down-requires c κs =
-    let s = c .before .before in
-    (here c .0, subst (λ (n : ℕ). n < 256) (sym (here c .1)) (byte-lt (mag (s .args .x)) (s .args .digits) (s .pre .1 .1)))
+round-down-requires c κs = (here c .0, subst (λ (n : ℕ). n < 256) (sym (here c .1)) (small (c .before .before)))
 
 returns : tie.Need-returns
-returns c = c .round-down .ensures ∙ here (c .before) .1
+returns c =
+    let is = c .round-down .ensures ∙ here (c .before) .1 in
+    (subst (λ (n : ℕ). n < 256) (sym is) (small (c .before .before .before)), is)
 
 pub byte-of-spec : {M : Type 1} → statement M
 byte-of-spec =

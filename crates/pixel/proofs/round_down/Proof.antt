@@ -1,6 +1,6 @@
 -- `pixel::round_down` meets its contract: the bits of the sum end with the whole part or with one more, and the test tells which.
-use mathlib.Core.Path.{_≡_, sym, subst}
-use Prim.Native.Nat.{ℕ, suc, _-_, _/_, _%_, _^_, _≤_, _<_}
+use mathlib.Core.Path.{_≡_}
+use Prim.Native.Nat.{ℕ, suc, _-_, _/_, _%_, _^_, _≤_}
 use native.Mathlib.Omega.{arith}
 use lib.Ieee.{binary32, toBits}
 use denote.Floats.{passes}
@@ -29,12 +29,6 @@ even c = let s = c .before in no-more (s .args .y) (passes _ (s .good .0 .1)) (s
 sub-result : tie.Need-sub-result
 sub-result c = some _ _ (over c)
 
-cast-result : tie.Need-cast-result
-cast-result c = record { fits = subst (λ (n : ℕ). n < 256) (sym (less _ _ (over c))) (c .before .pre .1) }
-
-cast-result-2 : tie.Need-cast-result-2
-cast-result-2 c = record { fits = subst (λ (n : ℕ). n < 256) (sym (even c)) (c .before .pre .1) }
-
 returns : tie.Need-returns
 returns c = less _ _ (over c)
 
@@ -43,4 +37,4 @@ returns-2 c = even c
 
 pub round-down-spec : {M : Type 1} → statement M
 round-down-spec =
-    tie.close (tie.spec float-to-bits-near sub-result cast-result cast-result-2 returns returns-2)
+    tie.close (tie.spec float-to-bits-near sub-result returns returns-2)

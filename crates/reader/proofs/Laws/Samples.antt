@@ -1,5 +1,5 @@
 -- The laws that proofs use of `specs/Samples.antt`.
-use Prim.Native.Nat.{ℕ, zero, suc, _+_, _-_, _*_, _/_, _%_, _<_, _≤_}
+use Prim.Native.Nat.{ℕ, zero, suc, _+_, _-_, _<_, _≤_}
 use mathlib.Core.List.{List, []}
 use mathlib.Core.Path.{_≡_}
 use native.Mathlib.Nat.{not-suc-le-zero}
@@ -9,23 +9,6 @@ use Rattle.pixel.specs.declared.Pixel.{Pixel}
 use Rattle.pixel.specs.declared.Rgbe.{Rgbe}
 use Rattle.steps.specs.Place.{spread}
 use Rattle.reader.specs.Samples.{SampleRule, rgbeAt, three, samplesFrom}
-
--- a word is taken apart into its four bytes
-module _ (a b c d w : ℕ) (ha : a < 256) (hb : b < 256) (hc : c < 256) (hd : d < 256) (e : w ≡ a + b * 256 + c * 65536 + d * 16777216) where
-  first : w % 256 ≡ a
-  first = omega arith
-
-  second : w / 256 % 256 ≡ b
-  second = omega arith
-
-  third : w / 65536 % 256 ≡ c
-  third = omega arith
-
-  fourth : w / 16777216 % 256 ≡ d
-  fourth = omega arith
-
-  pub word-parts : _≡_ {A = Rgbe} (record { r = w % 256; g = w / 256 % 256; b = w / 65536 % 256; e = w / 16777216 % 256 }) (record { r = a; g = b; b = c; e = d })
-  word-parts = λ i. record { r = first i; g = second i; b = third i; e = fourth i }
 
 -- one pixel's samples, and the rest
 pub samples-again : (rule : SampleRule) (store : List ℕ) (out out′ w : List Float) (i o n : ℕ) (q : Rgbe) (p : Pixel) → spread 1 out o (samplesFrom rule store i n) ≡ w → 0 < n

@@ -1,7 +1,7 @@
 -- `reader::samples::rgbe_at` meets its contract: the word is taken apart again.
 use borrow.Author.Needs.{needs}
 use Prim.Native.Nat.{_+_}
-use Rattle.reader.proofs.Laws.Samples.{word-parts}
+use Rattle.pixel.proofs.Laws.Words.{word-parts}
 use Rattle.reader.proofs.samples.rgbe_at.Statement.{statement}
 use Rattle.reader.proofs.samples.rgbe_at.Tie as tie
 

@@ -1,4 +1,5 @@
 -- `runs::part::equal_fours` meets its contract. The invariant: the first n bytes are equal.
+use borrow.Author.Needs.{needs}
 use Prim.Native.Nat.{_-_, _≤_}
 use native.Mathlib.Omega.{arith}
 use Rattle.runs.specs.Part.{Equal}
@@ -7,21 +8,21 @@ use Rattle.runs.proofs.part.equal_fours.Statement.{statement}
 use Rattle.runs.proofs.part.equal_fours.Tie as tie
 
 abbrev Inv-loop : tie.InvT-loop
-Inv-loop px at cap v n₀ n = (4 ≤ n) × (n ≤ cap) × Equal px at n
+Inv-loop px at cap v stop n₀ n = (4 ≤ n) × (n ≤ cap) × Equal px at n
 
 abbrev μ-loop : tie.MeasureT-loop
-μ-loop px at cap v n₀ n = cap - n
+μ-loop px at cap v stop n₀ n = cap - n
 
 shared-slice-read-v : tie.Need-shared-slice-read-v Inv-loop μ-loop
 shared-slice-read-v c = omega arith
 
+less-requires : tie.Need-less-requires Inv-loop μ-loop
+less-requires c κs = search needs
+
 loop-holds : tie.Need-loop-holds Inv-loop μ-loop
 loop-holds c =
-    let k = c .before .before in
+    let k = c .before .before .before in
     (omega arith, omega arith, equal-first (k .args .px .now) (k .args .at) (k .pre .2))
-
-add-loop : tie.Need-add-loop Inv-loop μ-loop
-add-loop c = omega arith
 
 mul-are-all : tie.Need-mul-are-all Inv-loop μ-loop
 mul-are-all c = omega arith
@@ -41,7 +42,7 @@ loop-less c = omega arith
 loop-again : tie.Need-loop-again Inv-loop μ-loop
 loop-again c =
     let k = c .before .before .before in
-    let a = k .before .before .before .args in
+    let a = k .before .before .before .before .args in
     (omega arith, omega arith, equal-four (a .px .now) (a .at) (k .loop .n) (k .loop .inv .2) (c .before .are-all .ensures (c .if1 .taken)))
 
 returns : tie.Need-returns Inv-loop μ-loop
@@ -57,8 +58,8 @@ equal-fours-spec =
     Inv-loop
     μ-loop
     shared-slice-read-v
+    less-requires
     loop-holds
-    add-loop
     mul-are-all
     add-are-all
     are-all-requires

@@ -1,4 +1,5 @@
 -- `runs::part::gathered` meets its contract. The invariant: what is before h gathers, and h is a border of the channel.
+use borrow.Author.Needs.{needs}
 use mathlib.Core.Path.{refl}
 use mathlib.Core.Logic.{inl, inr}
 use Prim.Native.Nat.{_-_, _≤_}
@@ -8,16 +9,16 @@ use Rattle.runs.proofs.part.gathered.Statement.{statement}
 use Rattle.runs.proofs.part.gathered.Tie as tie
 
 abbrev Inv-loop : tie.InvT-loop
-Inv-loop px at left h₀ h = (h ≤ left) × Looks px at left h
+Inv-loop px at left stop h₀ h = (h ≤ left) × Looks px at left h
 
 abbrev μ-loop : tie.MeasureT-loop
-μ-loop px at left h₀ h = left - h
+μ-loop px at left stop h₀ h = left - h
+
+less-requires : tie.Need-less-requires Inv-loop μ-loop
+less-requires c κs = search needs
 
 loop-holds : tie.Need-loop-holds Inv-loop μ-loop
 loop-holds c = (omega arith, looks-first _ _ _)
-
-add-loop : tie.Need-add-loop Inv-loop μ-loop
-add-loop c = omega arith
 
 mul-skip : tie.Need-mul-skip Inv-loop μ-loop
 mul-skip c = omega arith
@@ -42,12 +43,12 @@ loop-less c = omega (arith, c .before .skip .ensures .small)
 loop-again : tie.Need-loop-again Inv-loop μ-loop
 loop-again c =
     let t = c .before .before .before in
-    (omega (arith, c .before .skip .ensures .small), looks-next _ _ _ _ _ (t .loop .inv .1) (c .before .skip .ensures) (c .if1 .left) (c .before .before .loop-test .taken))
+    (omega (arith, c .before .skip .ensures .small), looks-next _ _ _ _ _ (t .loop .inv .1) (c .before .skip .ensures) (c .if1 .left) (omega arith))
 
 returns-2 : tie.Need-returns-2 Inv-loop μ-loop
 returns-2 c =
     let t = c .before in
-    (looks-end _ _ _ _ (t .loop .inv .1) (c .loop-test .left), inl refl)
+    (looks-end _ _ _ _ (t .loop .inv .1) (omega arith), inl refl)
 
 pub gathered-spec : {M : Type 1} → statement M
 gathered-spec =
@@ -55,8 +56,8 @@ gathered-spec =
     (tie.spec
     Inv-loop
     μ-loop
+    less-requires
     loop-holds
-    add-loop
     mul-skip
     add-skip
     skip-requires

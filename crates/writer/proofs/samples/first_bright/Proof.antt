@@ -4,7 +4,7 @@ use mathlib.Core.Path.{_≡_}
 use Prim.Native.Nat.{_+_, _-_, _*_, _<_, _≤_}
 use native.Mathlib.Omega.{arith}
 use Rattle.writer.specs.Samples.{firstBright}
-use Rattle.writer.proofs.Laws.Samples.{bright-start, bright-found, bright-again, bright-none, pixel-within, row-ends}
+use Rattle.writer.proofs.Laws.Samples.{bright-start, bright-found, bright-again, bright-none, passed-start, pixel-within, row-within, row-ends}
 use Rattle.writer.proofs.samples.first_bright.Statement.{statement}
 use Rattle.writer.proofs.samples.first_bright.Tie as tie
 
@@ -25,8 +25,17 @@ abbrev μ-rows : tie.MeasureT-rows
 rows-holds : tie.Need-rows-holds Inv-loop μ-loop Inv-rows μ-rows
 rows-holds c = (search needs, omega arith, search bright-start)
 
+mul-passed : tie.Need-mul-passed Inv-loop μ-loop Inv-rows μ-rows
+mul-passed c = omega (arith, row-within _ _ _ _ (c .before .rows .inv .1) (c .rows-test .taken))
+
+passed-requires : tie.Need-passed-requires Inv-loop μ-loop Inv-rows μ-rows
+passed-requires c κs = omega (arith, row-within _ _ _ _ (c .before .rows .inv .1) (c .rows-test .taken))
+
+add-k : tie.Need-add-k Inv-loop μ-loop Inv-rows μ-rows
+add-k c = omega (arith, c .passed .ensures .within, row-within _ _ _ _ (c .before .before .rows .inv .1) (c .before .rows-test .taken))
+
 loop-holds : tie.Need-loop-holds Inv-loop μ-loop Inv-rows μ-rows
-loop-holds c = (search needs, search needs, omega arith, search needs)
+loop-holds c = (search needs, search needs, omega arith, search passed-start)
 
 mul-pixel-at : tie.Need-mul-pixel-at Inv-loop μ-loop Inv-rows μ-rows
 mul-pixel-at c = omega (arith, pixel-within _ _ _ _ _ (c .before .loop .inv .2) (c .before .loop .inv .0) (c .loop-test .taken))
@@ -37,8 +46,8 @@ pixel-at-requires c κs = omega (arith, pixel-within _ _ _ _ _ (c .before .loop 
 is-too-bright-requires : tie.Need-is-too-bright-requires Inv-loop μ-loop Inv-rows μ-rows
 is-too-bright-requires c κs = search needs
 
-add-k : tie.Need-add-k Inv-loop μ-loop Inv-rows μ-rows
-add-k c =
+add-k-2 : tie.Need-add-k-2 Inv-loop μ-loop Inv-rows μ-rows
+add-k-2 c =
     let at = c .before .before .before in
     omega (arith, pixel-within _ _ _ _ _ (at .before .loop .inv .2) (at .before .loop .inv .0) (at .loop-test .taken))
 
@@ -75,11 +84,14 @@ first-bright-spec =
     Inv-rows
     μ-rows
     rows-holds
+    mul-passed
+    passed-requires
+    add-k
     loop-holds
     mul-pixel-at
     pixel-at-requires
     is-too-bright-requires
-    add-k
+    add-k-2
     add-column
     loop-less
     loop-again
