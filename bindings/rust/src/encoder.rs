@@ -87,11 +87,27 @@ impl<'a> HdrEncoder<'a> {
         }
     }
 
+    /// How many whole pixels the frame has.
+    fn pixels(&self) -> usize {
+        match self.frame {
+            Frame::Samples(samples) => samples.len() / 3,
+            Frame::Pixels(pixels) => pixels.len() / 4,
+        }
+    }
+
     /// Adds the file to the end of a vector, and answers its length. A refusal leaves the vector as it was.
+    ///
+    /// Room for the worst length is asked for, so that the length is not counted first; a frame that does not have the
+    /// pixels of its sizes is refused without any.
     pub fn encode(&self, out: &mut Vec<u8>) -> Result<usize, HdrError> {
         let start = out.len();
-        out.resize(start + self.exact_size()?, 0);
-        self.encode_into(&mut out[start..])
+        let worst = self.worst_size()?;
+        if self.pixels() == self.options.width * self.options.height {
+            out.resize(start + worst, 0);
+        }
+        let written = self.encode_into(&mut out[start..]);
+        out.truncate(start + written.unwrap_or(0));
+        written
     }
 
     /// Writes the file to the start of a buffer, and answers its length.
