@@ -1,0 +1,55 @@
+-- `survey::row` meets its contract. The invariant: what is left, added, gives what is wanted, and the counts have room.
+use borrow.Author.Needs.{needs}
+use mathlib.Core.Path.{_≡_, refl}
+use Prim.Native.Nat.{_+_, _*_, _<_, _≤_}
+use native.Mathlib.Omega.{arith}
+use lib.ListN.{length}
+use Rattle.survey.specs.Survey.{surveyOf}
+use Rattle.survey.proofs.Laws.Survey.{survey-again, survey-end}
+use Rattle.survey.proofs.row.Statement.{statement}
+use Rattle.survey.proofs.row.Tie as tie
+
+abbrev Inv-loop : tie.InvT-loop
+Inv-loop store n t₀ i₀ left₀ t i left = (i + 4 * left ≤ length store) × (t .black + left ≤ t₀ .black + n) × (t .masked + left ≤ t₀ .masked + n) × (surveyOf store i left t ≡ surveyOf store 0 n t₀)
+
+abbrev μ-loop : tie.MeasureT-loop
+μ-loop store n t₀ i₀ left₀ t i left = left
+
+loop-holds : tie.Need-loop-holds Inv-loop μ-loop
+loop-holds c = (search needs, search needs, search needs, refl)
+
+pixel-at-requires : tie.Need-pixel-at-requires Inv-loop μ-loop
+pixel-at-requires c κs = search needs
+
+with-pixel-requires : tie.Need-with-pixel-requires Inv-loop μ-loop
+with-pixel-requires c κs = search needs
+
+add-i : tie.Need-add-i Inv-loop μ-loop
+add-i c = search needs
+
+sub-left : tie.Need-sub-left Inv-loop μ-loop
+sub-left c = search needs
+
+loop-less : tie.Need-loop-less Inv-loop μ-loop
+loop-less c = search needs
+
+loop-again : tie.Need-loop-again Inv-loop μ-loop
+loop-again c = (omega arith, omega arith, omega arith, search survey-again)
+
+returns : tie.Need-returns Inv-loop μ-loop
+returns c = (search survey-end, omega arith)
+
+pub row-spec : {M : Type 1} → statement M
+row-spec =
+    tie.close
+    (tie.spec
+    Inv-loop
+    μ-loop
+    loop-holds
+    pixel-at-requires
+    with-pixel-requires
+    add-i
+    sub-left
+    loop-less
+    loop-again
+    returns)
