@@ -1,0 +1,102 @@
+-- The laws of `specs/Header.antt`.
+use Prim.Native.Nat.{ℕ, suc, _+_, _<_, _≤_}
+use mathlib.Core.Bool.{Bool, true, false, not, _&&_, _||_}
+use mathlib.Core.List.{List, [], _∷_}
+use mathlib.Core.Path.{_≡_, refl, sym, ap, _∙_}
+use native.Mathlib.Numerals.{add-one}
+use native.Mathlib.Omega.{arith}
+use borrow.Author.Tests.{eq-eqb, ne-eqb, lt-ltb, le-ltb}
+use lib.ListN.{length, getD, drop, drop-of-length-le}
+use lib.Seq.{drop-cons}
+use lib.Dec.{eqb, leb}
+use Rattle.steps.specs.Answer.{Answer, done, refused}
+use Rattle.steps.specs.declared.refusal.Refusal.{Refusal}
+use Rattle.header.specs.declared.Head.{Head}
+use Rattle.header.specs.declared.HeadAnswer.{HeadAnswer}
+use Rattle.header.specs.declared.HeadAnswer.the-variants as answer
+use Rattle.header.specs.Head.{headerOf, paperOf}
+use Rattle.window.specs.declared.HeadPart.{HeadPart}
+use Rattle.window.specs.declared.HeadPart.the-variants.{Read, Refused, Long}
+use Rattle.window.specs.Header.{stageOf, endsFrom, refusedPart, headPart}
+
+-- ---- The stages
+
+module _ (stage b : ℕ) where
+  pub stage-line : stage < 2 → b ≡ 10 → stage + 1 ≡ stageOf stage b
+  unfolding stageOf
+  stage-line h e = simp (lt-ltb stage 2 h, eq-eqb b 10 e)
+
+  pub stage-text : stage < 2 → (b ≡ 10 → ⊥) → 0 ≡ stageOf stage b
+  unfolding stageOf
+  stage-text h e = simp (lt-ltb stage 2 h, ne-eqb b 10 e)
+
+  module _ (h : 2 ≤ stage) where
+    pub stage-end : stage ≡ 5 → b ≡ 10 → 6 ≡ stageOf stage b
+    unfolding stageOf
+    stage-end k e = simp (le-ltb stage 2 h, eq-eqb stage 5 k, eq-eqb b 10 e)
+
+    pub stage-last : stage ≡ 5 → (b ≡ 10 → ⊥) → 5 ≡ stageOf stage b
+    unfolding stageOf
+    stage-last k e = simp (le-ltb stage 2 h, eq-eqb stage 5 k, ne-eqb b 10 e)
+
+    pub stage-space : (stage ≡ 5 → ⊥) → b ≡ 32 → stage + 1 ≡ stageOf stage b
+    unfolding stageOf
+    stage-space k e = simp (le-ltb stage 2 h, ne-eqb stage 5 k, eq-eqb b 32 e)
+
+    pub stage-field : (stage ≡ 5 → ⊥) → (b ≡ 32 → ⊥) → stage ≡ stageOf stage b
+    unfolding stageOf
+    stage-field k e = simp (le-ltb stage 2 h, ne-eqb stage 5 k, ne-eqb b 32 e)
+
+-- a search that has come to the place i with the header not at its end
+module _ (part : List ℕ) (i stage : ℕ) (w : Bool) (is : endsFrom stage (drop i part) ≡ w) where
+  pub ends-none : length part ≤ i → false ≡ w
+  unfolding endsFrom
+  ends-none h =
+      let none : endsFrom stage (drop i part) ≡ false = rw (drop-of-length-le part h) in
+      sym none ∙ is
+
+  module _ (next : ℕ) (h : i < length part) (e : next ≡ stageOf stage (getD part i 0)) where
+    front : endsFrom stage (drop i part) ≡ (eqb next 6 || endsFrom next (drop (suc i) part))
+    unfolding endsFrom
+    front = rw (drop-cons part i 0 h, e)
+
+    pub ends-here : next ≡ 6 → true ≡ w
+    ends-here k = sym (front ∙ simp (eq-eqb next 6 k)) ∙ is
+
+    pub ends-later : (next ≡ 6 → ⊥) → endsFrom next (drop (i + 1) part) ≡ w
+    ends-later k = rw add-one (sym (front ∙ simp (ne-eqb next 6 k)) ∙ is)
+
+-- ---- What the code finds, case by case
+
+module _ (more : Bool) (part : List ℕ) (r : Refusal) where
+  pub refused-first : r .number ≡ 1 → Refused r ≡ refusedPart more part r
+  unfolding refusedPart
+  refused-first h = simp (eq-eqb (r .number) 1 h)
+
+  module _ (h : r .number ≡ 1 → ⊥) where
+    pub refused-whole : more ≡ false → Refused r ≡ refusedPart more part r
+    unfolding refusedPart
+    refused-whole u = simp (ne-eqb (r .number) 1 h, u)
+
+    module _ (u : more ≡ true) (b : Bool) (eb : b ≡ endsFrom 0 part) where
+      pub refused-ended : b ≡ true → Refused r ≡ refusedPart more part r
+      unfolding refusedPart
+      refused-ended v = simp (ne-eqb (r .number) 1 h, u, sym eb ∙ v)
+
+      pub refused-long : b ≡ false → Long ≡ refusedPart more part r
+      unfolding refusedPart
+      refused-long v = simp (ne-eqb (r .number) 1 h, u, sym eb ∙ v)
+
+module _ (more : Bool) (part : List ℕ) (a : HeadAnswer) (ea : paperOf a ≡ headerOf part 65535 65535) where
+  module _ (head : Head) (e : a ≡ answer.Read head) (n : ℕ) (en : n ≡ length part) (b : Bool) (eb : b ≡ (more && leb n (head .taken))) where
+    pub head-long : b ≡ true → Long ≡ headPart more part (headerOf part 65535 65535)
+    unfolding headPart
+    head-long u = rw (← ea, e) (simp (← en, sym eb ∙ u))
+
+    pub head-read : b ≡ false → Read head ≡ headPart more part (headerOf part 65535 65535)
+    unfolding headPart
+    head-read u = rw (← ea, e) (simp (← en, sym eb ∙ u))
+
+  pub head-refused : (r : Refusal) (p : HeadPart) → a ≡ answer.Refused r → p ≡ refusedPart more part r → p ≡ headPart more part (headerOf part 65535 65535)
+  unfolding headPart
+  head-refused r p e ep = rw (← ea, e) ep
