@@ -1,5 +1,6 @@
 -- The header of a file of which a part is at hand.
-use Prim.Native.Nat.{ℕ, _+_}
+use Prim.{Unit}
+use Prim.Native.Nat.{ℕ, _+_, _≤_}
 use mathlib.Core.Bool.{Bool, true, false, not, _&&_, _||_}
 use mathlib.Core.List.{List, [], _∷_}
 use mathlib.Core.Path.{_≡_}
@@ -36,3 +37,9 @@ headPart more part (refused number place) = refusedPart more part (record { numb
 -- `window::read_header`
 abbrev pub HeadPromise : List ℕ → Bool → HeadPart → Type 0
 HeadPromise part more answer = answer ≡ headPart more part (headerOf part 65535 65535)
+
+-- a header that is read lies in a part of n bytes, and its sizes are within the format's limits
+abbrev pub HeadWithin : ℕ → HeadPart → Type 0
+HeadWithin n (Read head) = (head .taken ≤ n) × (head .width ≤ 65535) × (head .height ≤ 65535)
+HeadWithin n (Refused r) = Unit {0}
+HeadWithin n Long = Unit {0}

@@ -1,5 +1,6 @@
 -- A row of a file of which a part is at hand.
-use Prim.Native.Nat.{ℕ}
+use Prim.{Unit}
+use Prim.Native.Nat.{ℕ, _≤_}
 use mathlib.Core.Bool.{Bool, _&&_}
 use mathlib.Core.List.{List}
 use mathlib.Core.Path.{_≡_}
@@ -24,3 +25,9 @@ partOf part more at store width = let read = rowOf part at store width in (rowPa
 -- `window::read_row`: its answer, and the row store afterwards
 abbrev pub RowPromise : List ℕ → Bool → ℕ → List ℕ → ℕ → RowPart → List ℕ → Type 0
 RowPromise part more at store width answer store′ = (answer, store′) ≡ partOf part more at store width
+
+-- the next place lies in a part of n bytes
+abbrev pub RowWithin : ℕ → RowPart → Type 0
+RowWithin n (Read next) = next ≤ n
+RowWithin n Short = Unit {0}
+RowWithin n Long = Unit {0}

@@ -9,8 +9,9 @@ ghost use Prim.Native.Nat.{ℕ, _+_, _-_, _*_, _≤_, _<_};
 ghost use mathlib.Core.Bool.{_&&_};
 ghost use lib.ListN.{length, getD};
 ghost use lib.Dec.{leb};
-ghost use Rattle.window.specs.Header.{stageOf, endsFrom, refusedPart, HeadPromise};
-ghost use Rattle.window.specs.Row.{rowPart, RowPromise};
+ghost use Rattle.header.specs.Head.{paperOf};
+ghost use Rattle.window.specs.Header.{stageOf, endsFrom, refusedPart, headPart, HeadPromise, HeadWithin};
+ghost use Rattle.window.specs.Row.{rowPart, RowPromise, RowWithin};
 
 // Whether what ends at a place may need more than a part of that length. `more` says whether the file goes on after the part.
 fn reaches(more: bool, length: usize, end: usize) -> bool
@@ -53,6 +54,7 @@ fn row_part(more: bool, length: usize, taken: Taken) -> RowPart
 pub fn read_row(part: &[u8], more: bool, at: usize, store: &mut [u8], width: usize) -> RowPart
     requires { ⌜ 4 * width ≤ length (now store) ⌝ }
     ensures { λ r. ⌜ RowPromise (now (part .entry)) more at (now (store .entry)) width r (now (store .exit)) ⌝ }
+    ensures { λ r. ⌜ (at ≤ length (now (part .entry)) → RowWithin (length (now (part .entry))) r) ⌝ }
 {
     let taken = rows::read_row(part, at, store, width);
     row_part(more, part.len(), taken)
@@ -121,11 +123,10 @@ fn refused_part(part: &[u8], more: bool, refusal: Refusal) -> HeadPart
     HeadPart::Refused(refusal)
 }
 
-// The header at the start of the part, with no limits but the format's own.
-pub fn read_header(part: &[u8], more: bool) -> HeadPart
-    ensures { λ r. ⌜ HeadPromise (now (part .entry)) more r ⌝ }
+// What a part says of a header that was read so.
+fn head_part(part: &[u8], more: bool, answer: HeadAnswer) -> HeadPart
+    ensures { λ r. ⌜ r ≡ headPart more (now (part .entry)) (paperOf answer) ⌝ }
 {
-    let answer = header::read(part, 65535, 65535);
     match answer {
         HeadAnswer::Read(head) => {
             if reaches(more, part.len(), head.taken) {
@@ -135,6 +136,15 @@ pub fn read_header(part: &[u8], more: bool) -> HeadPart
         }
         HeadAnswer::Refused(refusal) => refused_part(part, more, refusal),
     }
+}
+
+// The header at the start of the part, with no limits but the format's own.
+pub fn read_header(part: &[u8], more: bool) -> HeadPart
+    ensures { λ r. ⌜ HeadPromise (now (part .entry)) more r ⌝ }
+    ensures { λ r. ⌜ HeadWithin (length (now (part .entry))) r ⌝ }
+{
+    let answer = header::read(part, 65535, 65535);
+    head_part(part, more, answer)
 }
 
 // Moves the bytes from `at` to `end` to the front.

@@ -5,19 +5,25 @@ use mathlib.Core.List.{List, [], _∷_}
 use mathlib.Core.Path.{_≡_, refl, sym, ap, _∙_}
 use native.Mathlib.Numerals.{add-one}
 use native.Mathlib.Omega.{arith}
-use borrow.Author.Tests.{eq-eqb, ne-eqb, lt-ltb, le-ltb}
+use borrow.Author.Tests.{eq-eqb, ne-eqb, lt-ltb, le-ltb, leb-false}
 use lib.ListN.{length, getD, drop, drop-of-length-le}
 use lib.Seq.{drop-cons}
 use lib.Dec.{eqb, leb}
 use Rattle.steps.specs.Answer.{Answer, done, refused}
 use Rattle.steps.specs.declared.refusal.Refusal.{Refusal}
+use Rattle.steps.proofs.Laws.Turns.{by-test, Leads, run-keeps}
+use Rattle.steps.proofs.Laws.Answer.{passed}
 use Rattle.header.specs.declared.Head.{Head}
 use Rattle.header.specs.declared.HeadAnswer.{HeadAnswer}
 use Rattle.header.specs.declared.HeadAnswer.the-variants as answer
-use Rattle.header.specs.Head.{headerOf, paperOf}
+use Rattle.header.specs.Lines.{lineFeed, space, lineTurn, noLines, linesEnd}
+use Rattle.header.specs.Fields.{fieldsAt}
+use Rattle.header.specs.Head.{fieldsOf, headChecks, headOf, headerOf, paperOf}
+use Rattle.header.proofs.Laws.Lines.{past-within}
+use Rattle.header.proofs.Laws.Head.{header-limits}
 use Rattle.window.specs.declared.HeadPart.{HeadPart}
 use Rattle.window.specs.declared.HeadPart.the-variants.{Read, Refused, Long}
-use Rattle.window.specs.Header.{stageOf, endsFrom, refusedPart, headPart}
+use Rattle.window.specs.Header.{stageOf, endsFrom, refusedPart, headPart, HeadWithin}
 
 -- ---- The stages
 
@@ -87,16 +93,60 @@ module _ (more : Bool) (part : List ℕ) (r : Refusal) where
       unfolding refusedPart
       refused-long v = simp (ne-eqb (r .number) 1 h, u, sym eb ∙ v)
 
-module _ (more : Bool) (part : List ℕ) (a : HeadAnswer) (ea : paperOf a ≡ headerOf part 65535 65535) where
+module _ (more : Bool) (part : List ℕ) (a : HeadAnswer) where
   module _ (head : Head) (e : a ≡ answer.Read head) (n : ℕ) (en : n ≡ length part) (b : Bool) (eb : b ≡ (more && leb n (head .taken))) where
-    pub head-long : b ≡ true → Long ≡ headPart more part (headerOf part 65535 65535)
+    pub head-long : b ≡ true → Long ≡ headPart more part (paperOf a)
     unfolding headPart
-    head-long u = rw (← ea, e) (simp (← en, sym eb ∙ u))
+    head-long u = rw e (simp (← en, sym eb ∙ u))
 
-    pub head-read : b ≡ false → Read head ≡ headPart more part (headerOf part 65535 65535)
+    pub head-read : b ≡ false → Read head ≡ headPart more part (paperOf a)
     unfolding headPart
-    head-read u = rw (← ea, e) (simp (← en, sym eb ∙ u))
+    head-read u = rw e (simp (← en, sym eb ∙ u))
 
-  pub head-refused : (r : Refusal) (p : HeadPart) → a ≡ answer.Refused r → p ≡ refusedPart more part r → p ≡ headPart more part (headerOf part 65535 65535)
+  pub head-refused : (r : Refusal) (p : HeadPart) → a ≡ answer.Refused r → p ≡ refusedPart more part r → p ≡ headPart more part (paperOf a)
   unfolding headPart
-  head-refused r p e ep = rw (← ea, e) ep
+  head-refused r p e ep = rw e ep
+
+-- ---- A header that is read lies in the part
+
+lines-within : (bytes : List ℕ) (at : ℕ) → at ≤ length bytes → linesEnd bytes at ≤ length bytes
+unfolding linesEnd lineTurn
+lines-within bytes at h =
+    run-keeps (lineTurn bytes) noLines P P step (λ p q. q) _ _ h
+  where
+    P : ℕ → Type 0
+    P p = p ≤ length bytes
+
+    step : (p : ℕ) → P p → Leads P P (lineTurn bytes p)
+    step p q =
+        by-test (Leads P P) (leb (length bytes) p) (λ _. q)
+        (λ t. by-test (Leads P P) (eqb (getD bytes p 0) lineFeed) (λ _. let l = leb-false (length bytes) p t in omega arith) (λ _. past-within lineFeed bytes p q))
+
+taken-within : (bytes : List ℕ) → fieldsOf bytes .taken ≤ length bytes
+unfolding fieldsOf fieldsAt
+taken-within bytes =
+    past-within lineFeed bytes _ (past-within space bytes _ (past-within space bytes _ (past-within space bytes _ (lines-within bytes _ (past-within lineFeed bytes 0 (omega arith))))))
+
+read-within : (bytes : List ℕ) (head : Head) → headerOf bytes 65535 65535 ≡ done head → head .taken ≤ length bytes
+unfolding headerOf headOf
+read-within bytes head e =
+    let k : fieldsOf bytes .taken ≡ head .taken = ap (λ (h : Head). h .taken) (passed (headChecks bytes 65535 65535) (headOf (fieldsOf bytes)) head e .1) in
+    rw (sym k) (taken-within bytes)
+
+refused-within : (n : ℕ) (more : Bool) (part : List ℕ) (r : Refusal) → HeadWithin n (refusedPart more part r)
+unfolding refusedPart
+refused-within n more part r = by-test (HeadWithin n) (eqb (r .number) 1) (λ _. tt) (λ _. by-test (HeadWithin n) (more && not (endsFrom 0 part)) (λ _. tt) (λ _. tt))
+
+answer-within : (part : List ℕ) (more : Bool) (a : Answer Head) → a ≡ headerOf part 65535 65535 → HeadWithin (length part) (headPart more part a)
+unfolding headPart
+answer-within part more (done head) e =
+    by-test (HeadWithin (length part)) (more && leb (length part) (head .taken)) (λ _. tt)
+    (λ _. let l = header-limits part 65535 65535 head (sym e) in (read-within part head (sym e), l .0, l .1))
+answer-within part more (refused number place) e = refused-within (length part) more part _
+
+module _ (part : List ℕ) (more : Bool) (a : HeadAnswer) (p : HeadPart) (ea : paperOf a ≡ headerOf part 65535 65535) (e : p ≡ headPart more part (paperOf a)) where
+  pub head-is : p ≡ headPart more part (headerOf part 65535 65535)
+  head-is = rw (← ea) e
+
+  pub head-within : HeadWithin (length part) p
+  head-within = rw e (answer-within part more (paperOf a) ea)

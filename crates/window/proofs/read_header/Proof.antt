@@ -1,42 +1,17 @@
--- `window::read_header` meets its contract, case by case.
+-- `window::read_header` meets its contract.
 use borrow.Author.Needs.{needs}
-use Rattle.window.proofs.Laws.Header.{head-long, head-read, head-refused}
+use Rattle.window.proofs.Laws.Header.{head-is, head-within}
 use Rattle.window.proofs.read_header.Statement.{statement}
 use Rattle.window.proofs.read_header.Tie as tie
 
 read-requires : tie.Need-read-requires
 read-requires c κs = search needs
 
-enum-known-answer : tie.Need-enum-known-answer
-enum-known-answer c = search needs
-
-reaches-requires : tie.Need-reaches-requires
-reaches-requires c κs = search needs
+head-part-requires : tie.Need-head-part-requires
+head-part-requires c κs = search needs
 
 returns : tie.Need-returns
-returns c = search head-long
-
-enum-known-answer-2 : tie.Need-enum-known-answer-2
-enum-known-answer-2 c = search needs
-
-refused-part-requires : tie.Need-refused-part-requires
-refused-part-requires c κs = search needs
-
-returns-2 : tie.Need-returns-2
-returns-2 c = search head-read
-
-returns-3 : tie.Need-returns-3
-returns-3 c = search head-refused
+returns c = (search head-is, search head-within)
 
 pub read-header-spec : {M : Type 1} → statement M
-read-header-spec =
-    tie.close
-    (tie.spec
-    read-requires
-    enum-known-answer
-    reaches-requires
-    returns
-    enum-known-answer-2
-    refused-part-requires
-    returns-2
-    returns-3)
+read-header-spec = tie.close (tie.spec read-requires head-part-requires returns)
