@@ -1,0 +1,88 @@
+-- How much a row, a header and a power of two can be.
+use Prim.Native.Nat.{ℕ, _+_, _*_, _/_, _%_, _^_, _<_, _≤_}
+use mathlib.Core.Bool.{_&&_}
+use mathlib.Core.List.{List}
+use mathlib.Core.Path.{_≡_, refl, _∙_}
+use native.Mathlib.Nat.{mod-lt}
+use native.Mathlib.Omega.{arith}
+use borrow.Author.Tests.{leb-true}
+use lib.ListN.{length, take}
+use lib.Seq.{length-take-le}
+use lib.Dec.{leb}
+use lib.Pow.{pow-pos, pow-mono, shl-exact}
+use Rattle.steps.proofs.Laws.Turns.{by-test, and-left, and-right}
+use Rattle.pixel.specs.Rgbe.{crateShift}
+use Rattle.pixel.proofs.Laws.Scales.{crate-bounds}
+use Rattle.header.specs.Written.{written}
+use Rattle.header.proofs.Laws.Written.{written-length, digits-few}
+use Rattle.runs.specs.Row.{isCoded, rowOf, worstRow}
+use Rattle.runs.proofs.Laws.Worst.{row-worst}
+use Rattle.window.specs.Header.{HeadWithin}
+use Rattle.window.specs.Row.{RowWithin}
+use Rattle.window.specs.declared.HeadPart.{HeadPart}
+use Rattle.window.specs.declared.HeadPart.the-variants as head
+use Rattle.window.specs.declared.RowPart.{RowPart}
+use Rattle.window.specs.declared.RowPart.the-variants as row
+
+-- ---- A row as it is written
+
+worst-small : (w : ℕ) → w ≤ 65535 → worstRow w ≤ 262144
+unfolding worstRow isCoded
+worst-small w h =
+    by-test (λ (n : ℕ). n ≤ 262144) (leb 8 w && leb w 32767)
+    (λ t. let l = leb-true w 32767 (and-right (leb 8 w) (leb w 32767) t) in omega arith)
+    (λ t. omega arith)
+
+module _ (px : List ℕ) (at w : ℕ) (h : w ≤ 65535) where
+  pub row-small : (n : ℕ) → n ≡ length (rowOf px at w) → n ≤ 262144
+  row-small n e = omega (arith, row-worst px at w, worst-small w h)
+
+  pub row-half : length (rowOf px at w) ≤ 262144
+  row-half = row-small (length (rowOf px at w)) refl
+
+-- ---- The header as it is written
+
+pub header-few : (w h n : ℕ) → w < 2 ^ 64 → h < 2 ^ 64 → n ≡ length (written w h) → n ≤ 101
+header-few w h n kw kh e = omega (arith, written-length w h, digits-few w kw, digits-few h kh)
+
+pub header-short : (w h : ℕ) → w ≤ 65535 → h ≤ 65535 → length (written w h) ≤ 101
+header-short w h kw kh =
+    let lw : w < 2 ^ 64 = omega arith in
+    let lh : h < 2 ^ 64 = omega arith in
+    header-few w h (length (written w h)) lw lh refl
+
+pub header-half : (w h n : ℕ) → w ≤ 65535 → h ≤ 65535 → n ≡ length (written w h) → n ≤ 262144
+header-half w h n kw kh e = omega (arith, header-short w h kw kh)
+
+-- ---- A power of two
+
+power-small : (j : ℕ) → j ≤ 39 → 2 ^ j ≤ 1000000000000
+power-small j h = omega (arith, pow-mono {i = j} {j = 39} h)
+
+pub power-is : (j : ℕ) → j ≤ 39 → (1 * 2 ^ j) % 2 ^ 64 ≡ 2 ^ j
+power-is j h =
+    let k : 1 + j ≤ 64 = omega arith in
+    let one : 1 * 2 ^ j ≡ 2 ^ j = omega arith in
+    shl-exact {a = 1} 1 j 64 (omega arith) k ∙ one
+
+pub power-bounds : (j : ℕ) → j ≤ 39 → (0 < (1 * 2 ^ j) % 2 ^ 64) × ((1 * 2 ^ j) % 2 ^ 64 ≤ 1000000000000)
+power-bounds j h = rw (power-is j h) (pow-pos j, power-small j h)
+
+pub rest-less : (n unit : ℕ) → 0 < unit → n % unit < unit
+rest-less n unit h = mod-lt n h
+
+-- ---- Light
+
+pub shift-low : (e s : ℕ) → s ≡ crateShift e → 110 ≤ s
+shift-low e s k = rw k (crate-bounds e .0)
+
+pub shift-high : (e s : ℕ) → s ≡ crateShift e → s ≤ 172
+shift-high e s k = rw k (crate-bounds e .1)
+
+-- ---- A part of what is held
+
+pub head-part : (r : HeadPart) (bytes : List ℕ) (end : ℕ) → HeadWithin (length (take end bytes)) r → end ≤ length bytes → HeadWithin end r
+head-part r bytes end h k = rw (length-take-le end bytes k) at h
+
+pub row-part : (r : RowPart) (bytes : List ℕ) (at end : ℕ) → (at ≤ length (take end bytes) → RowWithin (length (take end bytes)) r) → at ≤ end → end ≤ length bytes → RowWithin end r
+row-part r bytes at end h a k = (rw (length-take-le end bytes k) at h) a

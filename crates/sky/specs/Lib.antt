@@ -1,0 +1,2 @@
+-- What the program's own contracts cite.
+pub mod View

@@ -1,0 +1,21 @@
+// What a person asks of a sky file: its sizes and its light, or a copy that is written anew.
+mod ask;
+mod copy;
+mod file;
+mod info;
+mod name;
+mod outcome;
+mod say;
+
+// What the program holds: a window of 2 MiB on the file, the widest row, and room for what is written.
+fn main() {
+    let mut bytes = [0u8; 2097152];
+    let mut store = [0u8; 262140];
+    let mut room = [0u8; 524288];
+    let ok = ask::answer(&mut bytes, &mut store, &mut room);
+    if ok {
+        say::text(b"ok\n");
+    } else {
+        say::text(b"refused\n");
+    }
+}

@@ -1,0 +1,94 @@
+// How the reading of a file ends, and what is said of it.
+use crate::file::View;
+use crate::name;
+use crate::say;
+use steps::refusal;
+use steps::refusal::Refusal;
+
+// How the rows of a file end.
+pub(crate) enum Outcome {
+    Whole(View),
+    Refused(Refusal),
+    LongHeader,
+    LongRow { row: usize },
+    Unreadable { error: i32 },
+    OldRun { row: usize },
+    Unwritten,
+}
+
+// A sentence for each number that reading a file can come to.
+fn sentence(number: u8) {
+    match number {
+        refusal::FIRST_LINE => say::text(
+            b"this is no Radiance picture: its first line is neither #?RADIANCE nor #?RGBE",
+        ),
+        refusal::AXES => say::text(
+            b"the line of sizes is neither -Y height +X width nor +X width -Y height",
+        ),
+        refusal::SIZE => say::text(b"the height or the width is no number"),
+        refusal::TOO_HIGH => say::text(b"the picture is higher than 65535 rows"),
+        refusal::TOO_WIDE => say::text(b"the picture is wider than 65535 pixels"),
+        refusal::NO_WIDTH => say::text(b"the picture is 0 pixels wide"),
+        refusal::BYTES_END => say::text(
+            b"the file ends before the picture does: it was cut off, or not copied whole",
+        ),
+        _ => say::text(b"the file cannot be read"),
+    }
+}
+
+// The number of a refusal, the row where it names one, and the sentence.
+fn say_refusal(r: Refusal) {
+    say::text(b"  refused          number ");
+    say::number(steps::wide(r.number));
+    if r.number == refusal::BYTES_END {
+        say_row(b" in row ", r.place);
+    }
+    say::text(b": ");
+    sentence(r.number);
+    say::text(b"\n");
+}
+
+// A row, as document 01 counts them.
+fn say_row(before: &[u8], row: usize) {
+    say::text(before);
+    say::number(row);
+    say::text(b" (the first row is 0)");
+}
+
+// Why a file was not read or written to its end; nothing where it was.
+pub(crate) fn say_outcome(outcome: Outcome) {
+    match outcome {
+        Outcome::Whole(view) => {}
+        Outcome::Refused(r) => say_refusal(r),
+        Outcome::LongHeader => {
+            say::text(
+                b"  refused          the header is longer than the 1048576 bytes that are looked at\n",
+            )
+        }
+        Outcome::LongRow { row } => {
+            say_row(b"  refused          row ", row);
+            say::text(b" is longer than the 1048576 bytes that are looked at\n");
+        }
+        Outcome::Unreadable { error } => {
+            say::text(b"  refused          the file cannot be read: ");
+            name::say_reason(error);
+        }
+        Outcome::OldRun { row } => {
+            say_row(b"  refused          row ", row);
+            say::text(
+                b" has a pixel that starts 1, 1, 1: at this width it would be read as a repeat\n",
+            );
+        }
+        Outcome::Unwritten => {
+            say::text(b"  refused          writing failed: the disk may be full\n")
+        }
+    }
+}
+
+// Whether the file was read and written to its end.
+pub(crate) fn is_whole(outcome: Outcome) -> bool {
+    match outcome {
+        Outcome::Whole(view) => true,
+        _ => false,
+    }
+}
