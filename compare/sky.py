@@ -1,0 +1,425 @@
+"""Holds the program sky to answers of its own: compare/sky runs it. Only Python's own library is used.
+
+The reader, the row coder and the light below follow document 01, and share no code with the crates.
+"""
+import os
+import random
+import subprocess
+import sys
+import time
+from fractions import Fraction
+
+SKY, FOLDER = sys.argv[1], sys.argv[2]
+PART = 1 << 20
+failures = []
+checked = 0
+
+
+# ---- Document 01, "Rows read"
+
+
+class Short(Exception):
+    pass
+
+
+def channel(src, at, store, first, width):
+    done = 0
+    while done < width:
+        if at >= len(src):
+            raise Short
+        count = src[at]
+        at += 1
+        n = min(count - 128 if count > 128 else count, width - done)
+        if count > 128:
+            values = bytes([src[at] if at < len(src) else 0]) * n
+            at = min(at + 1, len(src))
+        else:
+            values = src[at : at + n].ljust(n, b"\0")
+            at = min(at + n, len(src))
+        store[first + 4 * done : first + 4 * (done + n) : 4] = values
+        done += n
+    return at
+
+
+def flat(src, at, store, start, wanted):
+    place, shift = start, 0
+    while wanted > 0 and shift <= 16:
+        four = src[at : at + 4]
+        store[place : place + len(four)] = four
+        if len(four) < 4:
+            raise Short
+        at += 4
+        if four[:3] == b"\1\1\1":
+            count = four[3] << shift
+            while wanted > 0 and place > start + 4 and count > 0:
+                store[start + 4 : start + 8] = store[place - 4 : place]
+                place, wanted, count = place + 4, max(wanted - 4, 0), count - 1
+            shift += 8
+        else:
+            place, wanted, shift = place + 4, wanted - 1, 0
+    return at
+
+
+def read_row(src, at, store, width):
+    if width < 8 or width > 32767:
+        return flat(src, at, store, 0, width)
+    if at >= len(src):
+        raise Short
+    if src[at] != 2:
+        return flat(src, at, store, 0, width)
+    four = src[at : at + 4]
+    store[1 : len(four[:3])] = four[1:3]
+    if len(four) < 4:
+        raise Short
+    if four[1] != 2 or four[2] >= 128:
+        store[0:4] = four
+        return flat(src, at + 4, store, 4, width - 1)
+    at += 4
+    for first in range(4):
+        at = channel(src, at, store, first, width)
+    return at
+
+
+# ---- Document 01, "Rows written"
+
+
+def runs_of(values):
+    runs = []
+    for v in values:
+        if runs and runs[-1][0] == v and runs[-1][1] < 127:
+            runs[-1][1] += 1
+        else:
+            runs.append([v, 1])
+    return runs
+
+
+def stretch(gathered):
+    if len(gathered) == 1 and gathered[0][1] >= 2:
+        return bytes([128 + gathered[0][1], gathered[0][0]])
+    values = b"".join(bytes([v]) * n for v, n in gathered)
+    return b"".join(bytes([len(values[i : i + 128])]) + values[i : i + 128] for i in range(0, len(values), 128))
+
+
+def code(values):
+    out, gathered = b"", []
+    for v, n in runs_of(values):
+        if n >= 4:
+            out += stretch(gathered) + bytes([128 + n, v])
+            gathered = []
+        else:
+            gathered.append((v, n))
+    return out + stretch(gathered)
+
+
+def write_row(store, width):
+    if width < 8 or width > 32767:
+        return bytes(store[: 4 * width])
+    return bytes([2, 2, width // 256, width % 256]) + b"".join(code(store[c : 4 * width : 4]) for c in range(4))
+
+
+def header(width, height):
+    return b"#?RADIANCE\nSOFTWARE=zune-hdr\nFORMAT=32-bit_rle_rgbe\n\n-Y %d +X %d\n" % (height, width)
+
+
+def worst(width, height):
+    row = 4 * width if width < 8 or width > 32767 else 4 + 4 * (width + (width + 127) // 128)
+    return len(header(width, height)) + height * row
+
+
+# ---- Light, as the crate reading shows it
+
+
+def light(four):
+    m, e = max(four[:3]), four[3]
+    if e == 0 or m == 0:
+        return (0, 0)
+    d = e - 128
+    return (m, (d % 32 if d > 0 else -((-d) % 32)) - 8)
+
+
+def value(lit):
+    return lit[0] * Fraction(2) ** lit[1]
+
+
+def decimal(lit):
+    x = value(lit)
+    digits = x.denominator.bit_length() - 1
+    text = str(x.numerator * 10**digits // x.denominator).rjust(digits + 1, "0")
+    return text if digits == 0 else text[:-digits] + "." + text[-digits:]
+
+
+class Survey:
+    """What is asked of the pixels of a file; `times` rows may be alike."""
+
+    def __init__(self):
+        self.black = self.outside = self.length = 0
+        self.darkest = self.brightest = None
+
+    def row(self, store, width, times=1):
+        for q in (bytes(store[i : i + 4]) for i in range(0, 4 * width, 4)):
+            lit = light(q)
+            if lit[0] == 0:
+                self.black += times
+                continue
+            if not 97 <= q[3] <= 159:
+                self.outside += times
+            if self.darkest is None or value(lit) < value(self.darkest):
+                self.darkest = lit
+            if self.brightest is None or value(lit) > value(self.brightest):
+                self.brightest = lit
+        self.length += times * len(write_row(store, width))
+
+
+def say_light(label, lit):
+    text = "none, every pixel is black" if lit is None else "%s = %d x 2^%d" % (decimal(lit), lit[0], lit[1])
+    return "  %-17s%s" % (label, text)
+
+
+def told(name, width, height, taken, after, survey):
+    """The lines of `info` for a file that is whole."""
+    return [
+        name,
+        "  width            %d" % width,
+        "  height           %d" % height,
+        "  bytes taken      %d" % taken,
+        "  bytes after      %d" % after,
+        say_light("darkest pixel", survey.darkest),
+        say_light("brightest pixel", survey.brightest),
+        "  black pixels     %d" % survey.black,
+        "  outside 97-159   %d" % survey.outside,
+        "  if written anew  %d" % (len(header(width, height)) + survey.length),
+        "  at worst         %d" % worst(width, height),
+    ]
+
+
+def answer(name, file, width, height, start):
+    """The lines of `info` for a file whose header takes `start` bytes, read by document 01. A refusal's sentence is left open."""
+    store, at, survey = bytearray(4 * width), start, Survey()
+    for row in range(height):
+        try:
+            at = read_row(file, at, store, width)
+        except Short:
+            return [name, "  refused          number 9 in row %d (the first row is 0): *" % row]
+        survey.row(store, width)
+    return told(name, width, height, at, len(file) - at, survey)
+
+
+# ---- Running sky
+
+
+def run(*words, prefix=(), folder=FOLDER):
+    done = subprocess.run([*prefix, SKY, *words], cwd=folder, stdout=subprocess.PIPE, stderr=subprocess.PIPE)
+    return done.stdout.decode().split("\n"), done.returncode, done.stderr.decode()
+
+
+def same(got, want):
+    return len(got) == len(want) and all(g == w or (w.endswith("*") and g.startswith(w[:-1]) and len(g) > len(w) + 8) for g, w in zip(got, want))
+
+
+def check(what, ok):
+    global checked
+    checked += 1
+    if not ok:
+        failures.append(what)
+        print("  differs: " + what)
+
+
+def expect(what, want, status, *words, **more):
+    """Runs sky, and holds what it says and its exit status to what is expected."""
+    got, returned, _ = run(*words, **more)
+    last = ["ok" if status == 0 else "refused", ""]
+    check(what, same(got, want + last) and returned == status)
+    if failures and failures[-1] == what:
+        print("    got      ", returned, got[:14])
+        print("    expected ", status, want[:14] + last)
+
+
+def keep(name, data):
+    with open(os.path.join(FOLDER, name), "wb") as f:
+        f.write(data)
+    return data
+
+
+def load(name):
+    with open(os.path.join(FOLDER, name), "rb") as f:
+        return f.read()
+
+
+def there(name):
+    return os.path.exists(os.path.join(FOLDER, name))
+
+
+# ---- The cases
+
+
+def pixels(rng, width, kind):
+    if kind == "smooth":
+        return b"".join(bytes([40 + i * 3 // width, 60, 90 + i * 5 // width, 126]) for i in range(width))
+    return b"".join(bytes([rng.randrange(256), rng.randrange(256), rng.randrange(256), rng.randrange(90, 170)]) for _ in range(width))
+
+
+def large(kind):
+    """4,096 by 2,048: 32 rows, each 64 times."""
+    width, height, rng = 4096, 2048, random.Random(kind)
+    rows = [pixels(rng, width, kind) for _ in range(32)]
+    coded = [write_row(row, width) for row in rows]
+    data = keep(kind + ".hdr", header(width, height) + b"".join(coded) * 64)
+    survey = Survey()
+    for row in rows:
+        survey.row(row, width, 64)
+    start = time.monotonic()
+    expect(kind + " info", told(kind + ".hdr", width, height, len(data), 0, survey), 0, "info", kind + ".hdr")
+    middle = time.monotonic()
+    lines = told(kind + ".hdr", width, height, len(data), 0, survey)[:5]
+    expect(kind + " copy", lines + ["  written to       copy.hdr", "  bytes written    %d" % len(data)], 0, "copy", kind + ".hdr", "copy.hdr", "--force")
+    check(kind + " copied bytes", load("copy.hdr") == data)
+    print("  %s, %d bytes: info %.1f s, copy %.1f s" % (kind, len(data), middle - start, time.monotonic() - middle))
+    _, _, said = run("info", kind + ".hdr")
+    check(kind + " progress", ("90% 100%\n" in said) == (len(data) > 4194304))
+
+
+def wide():
+    width, rng = 40000, random.Random(7)
+    rows = [pixels(rng, width, "noisy") for _ in range(3)]
+    data = keep("wide.hdr", header(width, 3) + b"".join(rows) + b"end")
+    expect("wide info", answer("wide.hdr", data, width, 3, len(header(width, 3))), 0, "info", "wide.hdr")
+    run("copy", "wide.hdr", "wide2.hdr")
+    check("wide copied bytes", load("wide2.hdr") == data[:-3])
+    old = keep("old.hdr", b"#?RGBE\n\n-Y 1 +X 4\n" + bytes([10, 10, 10, 129, 20, 20, 20, 129, 1, 1, 1, 2]))
+    expect("old runs info", answer("old.hdr", old, 4, 1, 18), 0, "info", "old.hdr")
+    expect("old runs copy", ["old.hdr", "  refused          row 0 (the first row is 0) *"], 1, "copy", "old.hdr", "old2.hdr")
+    check("old runs left nothing", not there("old2.hdr") and not there("old2.hdr.part"))
+
+
+def cut():
+    """A file cut off at every byte, with flat rows, coded ones and one after a pixel 2, 3."""
+    width, height, rng = 9, 3, random.Random(3)
+    start = b"#?RGBE\nEXPOSURE=2\n\n+X 9 -Y 3\n"
+    first = pixels(rng, width, "noisy")
+    file = start + write_row(first, width) + b"\2\3\4\5" + pixels(rng, 8, "noisy") + b"\2\2\0\11" + b"\211\1\0\211\2\4abcd\205e\211\200"
+    names, want = [], []
+    for end in range(len(start), len(file) + 1):
+        names.append("cut%d.hdr" % end)
+        keep(names[-1], file[:end])
+        want += answer(names[-1], file[:end], width, height, len(start))
+    refused = any("refused" in line for line in want)
+    expect("cut at every byte", want, 1 if refused else 0, "info", *names)
+
+
+def headers():
+    table = {
+        "empty": (b"", 1),
+        "jpeg": (b"\xff\xd8\xff\xe0" + b"x" * 3000000, 1),
+        "axes": (b"#?RADIANCE\n\n+Y 2 +X 2\n" + b"\0" * 16, 2),
+        "axes-long": (b"#?RADIANCE\n\n+Y 2 +X 2\n" + b"\0" * 3000000, 2),
+        "size": (b"#?RADIANCE\n\n-Y two +X 2\n", 3),
+        "high": (b"#?RADIANCE\n\n-Y 65536 +X 2\n", 4),
+        "wide5": (b"#?RADIANCE\n\n-Y 2 +X 65536\n", 5),
+        "narrow": (b"#?RADIANCE\n\n-Y 2 +X 0\n", 7),
+    }
+    for name, (data, number) in table.items():
+        keep(name, data)
+        expect("header " + name, [name, "  refused          number %d: *" % number], 1, "info", name)
+    data = keep("none.hdr", b"#?RADIANCE\n\n-Y 0 +X 3\nrest")
+    expect("height 0", answer("none.hdr", data, 3, 0, 22), 0, "info", "none.hdr")
+    line = b"x" * 1023 + b"\n"
+    data = keep("comments", b"#?RGBE\n" + line * 1000 + b"\n-Y 1 +X 1\n\1\2\3\4" + b"\0" * 2000000)
+    expect("many comments", answer("comments", data, 1, 1, data.index(b"-Y") + 10), 0, "info", "comments")
+    keep("long-header", b"#?RGBE\n" + line * 1024 + b"\n-Y 1 +X 1\n\1\2\3\4")
+    expect("long header", ["long-header", "  refused          the header is longer than *"], 1, "info", "long-header")
+
+
+def long_rows():
+    """Counts of 0 make a row as long as one likes: up to 1 MiB, and a byte more to see its end, is looked at, wherever it lies."""
+    width, rng = 8, random.Random(5)
+    start, tail = header(width, 40), write_row(pixels(rng, width, "noisy"), width)
+    filled = tail[:4] + b"\0" * (PART - 1 - len(tail)) + tail[4:]
+    longer = tail[:4] + b"\0" * (PART - len(tail)) + tail[4:]
+    store = bytearray(4 * width)
+    read_row(tail, 0, store, width)
+    survey = Survey()
+    survey.row(store, width, 40)
+    for name, rows, lost in (("most", [tail] * 19 + [filled] * 3 + [tail] * 18, None), ("over", [tail] * 19 + [filled, longer] + [tail] * 19, 20)):
+        data = keep(name, start + b"".join(rows))
+        if lost is None:
+            expect("long rows " + name, told(name, width, 40, len(data), 0, survey), 0, "info", name)
+        else:
+            expect("long rows " + name, [name, "  refused          row %d (the first row is 0) is longer than *" % lost], 1, "info", name)
+
+
+def words():
+    for what, line, asked in (
+        ("no word", "sky: nothing is asked*", ()),
+        ("unknown word", "sky: unknown word tell*", ("tell", "a")),
+        ("no file", "sky: info wants a file*", ("info",)),
+        ("copy alone", "sky: copy wants IN and OUT*", ("copy", "a")),
+        ("copy to --force", "sky: copy wants IN and OUT*", ("copy", "a", "--force")),
+    ):
+        expect(what, [line], 1, *asked)
+    got, status, _ = run("help")
+    check("help", status == 0 and got[-2] == "ok" and any("./sky copy IN OUT" in line for line in got))
+    expect("missing file", ["gone.hdr", "  refused          the file cannot be opened: *"], 1, "info", "gone.hdr")
+    os.mkdir(os.path.join(FOLDER, "folder"))
+    expect("folder", ["folder", "  refused          the file cannot be read: *"], 1, "info", "folder")
+    small = answer("small.hdr", load("small.hdr"), 9, 2, len(header(9, 2)))
+    gone = ["gone.hdr", "  refused          the file cannot be opened: *"]
+    expect("a refused one among others", small + gone + small, 1, "info", "small.hdr", "gone.hdr", "small.hdr")
+
+
+def copies():
+    rng = random.Random(11)
+    source = header(9, 2) + write_row(pixels(rng, 9, "noisy"), 9) + pixels(rng, 9, "noisy") + b"after"
+    anew = bytearray(36)
+    keep("small.hdr", source)
+    at, file = len(header(9, 2)), header(9, 2)
+    for _ in range(2):
+        at = read_row(source, at, anew, 9)
+        file += write_row(anew, 9)
+    run("copy", "small.hdr", "new.hdr")
+    check("copy", load("new.hdr") == file)
+    keep("kept.hdr", b"mine")
+    expect("an output is kept", ["small.hdr", "  refused          kept.hdr is there already and is kept*"], 1, "copy", "small.hdr", "kept.hdr")
+    check("it has its bytes", load("kept.hdr") == b"mine")
+    run("copy", "small.hdr", "kept.hdr", "--force")
+    check("--force", load("kept.hdr") == file)
+    keep("self.hdr", source)
+    run("copy", "self.hdr", "self.hdr")
+    check("a file onto itself is kept", load("self.hdr") == source)
+    run("copy", "--force", "self.hdr", "self.hdr")
+    check("a file onto itself by --force", load("self.hdr") == file)
+    keep("busy.hdr.part", b"theirs")
+    expect("a name that is taken", ["small.hdr", "  refused          busy.hdr.part is there already*"], 1, "copy", "small.hdr", "busy.hdr")
+    check("it is left alone", load("busy.hdr.part") == b"theirs" and not there("busy.hdr"))
+    keep("torn.hdr", source[:90])
+    keep("whole.hdr", b"before")
+    expect("a damaged input", ["torn.hdr", "  refused          number 9 in row *"], 1, "copy", "torn.hdr", "whole.hdr", "--force")
+    check("the output is as it was", load("whole.hdr") == b"before" and not there("whole.hdr.part"))
+    expect("no such folder", ["small.hdr", "  refused          nowhere/x.hdr.part cannot be made*"], 1, "copy", "small.hdr", "nowhere/x.hdr")
+    os.symlink("nothing", os.path.join(FOLDER, "link.hdr"))
+    expect("a link is kept", ["small.hdr", "  refused          link.hdr is there already*"], 1, "copy", "small.hdr", "link.hdr")
+    os.mkdir(os.path.join(FOLDER, "elsewhere"))
+    expect("from another folder", answer("../small.hdr", source, 9, 2, len(header(9, 2))), 0, "info", "../small.hdr", folder=os.path.join(FOLDER, "elsewhere"))
+
+
+def full():
+    """A disk that is full: a limit on the length of files, with its signal ignored, makes writes fail alike."""
+    limit = ("bash", "-c", "trap '' XFSZ; ulimit -f 1000; exec \"$@\"", "sky")
+    expect("a full disk", ["noisy.hdr", "  refused          writing failed*"], 1, "copy", "noisy.hdr", "full.hdr", prefix=limit)
+    check("it left nothing", not there("full.hdr") and not there("full.hdr.part"))
+
+
+def main():
+    copies()
+    words()
+    cut()
+    headers()
+    wide()
+    long_rows()
+    large("smooth")
+    large("noisy")
+    full()
+    print("%d checked, %d differ" % (checked, len(failures)))
+    sys.exit(1 if failures else 0)
+
+
+main()
