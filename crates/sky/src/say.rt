@@ -20,14 +20,6 @@ pub(crate) fn field(label: &[u8], n: usize) {
     text(b"\n");
 }
 
-// A line of a name and why it is refused.
-pub(crate) fn refused(name: &[u8], why: &[u8]) {
-    text(name);
-    text(b": ");
-    text(why);
-    text(b"\n");
-}
-
 // The start of a line of progress.
 pub(crate) fn begin(shown: bool, name: &[u8]) {
     if shown {

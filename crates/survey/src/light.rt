@@ -60,7 +60,7 @@ pub fn is_black(q: Rgbe) -> bool
 }
 
 // Whether a pixel shows light, and at another brightness than the document.
-pub fn is_masked(q: Rgbe) -> bool
+pub(crate) fn is_masked(q: Rgbe) -> bool
     ensures { λ r. ⌜ r ≡ isMasked q ⌝ }
 {
     if is_black(q) {
@@ -73,7 +73,7 @@ pub fn is_masked(q: Rgbe) -> bool
 }
 
 // The darker of two pixels, a black one counting for nothing; the first where they are equal.
-pub fn darker(p: Rgbe, q: Rgbe) -> Rgbe
+pub(crate) fn darker(p: Rgbe, q: Rgbe) -> Rgbe
     ensures { λ r. ⌜ r ≡ darker p q ⌝ }
 {
     if is_black(q) {
@@ -86,7 +86,7 @@ pub fn darker(p: Rgbe, q: Rgbe) -> Rgbe
 }
 
 // The brighter of two pixels; the first where they are equal.
-pub fn brighter(p: Rgbe, q: Rgbe) -> Rgbe
+pub(crate) fn brighter(p: Rgbe, q: Rgbe) -> Rgbe
     ensures { λ r. ⌜ r ≡ brighter p q ⌝ }
 {
     if is_darker(p, q) { q } else { p }

@@ -2,7 +2,7 @@
 ghost use mathlib.Core.Path.{_≡_};
 ghost use Prim.Native.Nat.{_+_, _*_, _≤_};
 ghost use lib.ListN.{length};
-ghost use Rattle.rows.specs.Flat.{isRepeat};
+ghost use Rattle.flat.specs.Flat.{isRepeat};
 ghost use Rattle.survey.specs.Repeat.{anyRepeat};
 
 // Whether the pixel from a place on starts 1, 1, 1.

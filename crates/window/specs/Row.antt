@@ -8,8 +8,8 @@ use lib.ListN.{length}
 use lib.Dec.{leb}
 use Rattle.steps.specs.Loop.{pick}
 use Rattle.rows.specs.Row.{rowOf}
-use Rattle.rows.specs.declared.Taken.{Taken}
-use Rattle.rows.specs.declared.Taken.the-variants as taken
+use Rattle.steps.specs.declared.Taken.{Taken}
+use Rattle.steps.specs.declared.Taken.the-variants as taken
 use Rattle.window.specs.declared.RowPart.{RowPart}
 use Rattle.window.specs.declared.RowPart.the-variants.{Read, Short, Long}
 

@@ -1,7 +1,7 @@
 // A file of which only a part is at hand: its header, its rows, and the part moved on.
 use header::Head;
 use header::HeadAnswer;
-use rows::Taken;
+use steps::Taken;
 use steps::refusal;
 use steps::refusal::Refusal;
 ghost use mathlib.Core.Path.{_≡_};

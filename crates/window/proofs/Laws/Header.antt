@@ -16,10 +16,10 @@ use Rattle.steps.proofs.Laws.Answer.{passed}
 use Rattle.header.specs.declared.Head.{Head}
 use Rattle.header.specs.declared.HeadAnswer.{HeadAnswer}
 use Rattle.header.specs.declared.HeadAnswer.the-variants as answer
-use Rattle.header.specs.Lines.{lineFeed, space, lineTurn, noLines, linesEnd}
-use Rattle.header.specs.Fields.{fieldsAt}
+use Rattle.words.specs.Lines.{lineFeed, space, lineTurn, noLines, linesEnd}
+use Rattle.words.specs.Fields.{fieldsAt}
 use Rattle.header.specs.Head.{fieldsOf, headChecks, headOf, headerOf, paperOf}
-use Rattle.header.proofs.Laws.Lines.{past-within}
+use Rattle.words.proofs.Laws.Lines.{past-within}
 use Rattle.header.proofs.Laws.Head.{header-limits}
 use Rattle.window.specs.declared.HeadPart.{HeadPart}
 use Rattle.window.specs.declared.HeadPart.the-variants.{Read, Refused, Long}

@@ -1,6 +1,6 @@
 -- `survey::repeat::is_repeat` meets its contract, byte by byte.
 use borrow.Author.Needs.{needs}
-use Rattle.rows.proofs.Laws.Flat.{repeat-not-0, repeat-not-1, repeat-by-2}
+use Rattle.flat.proofs.Laws.Flat.{repeat-not-0, repeat-not-1, repeat-by-2}
 use Rattle.survey.proofs.repeat.is_repeat.Statement.{statement}
 use Rattle.survey.proofs.repeat.is_repeat.Tie as tie
 
