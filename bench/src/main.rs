@@ -17,17 +17,30 @@ use zune_hdr::{HdrDecoder, HdrEncoder};
 const PIXELS: usize = WIDTH * HEIGHT;
 const ROUNDS: usize = 9;
 
-/// The longest header of a frame of this size, and its rows at worst.
+/// Room for a header, and for the rows at their worst.
 const WORST: usize = 1024 + HEIGHT * (4 + 4 * (WIDTH + WIDTH / 128));
 
 #[link(name = "doorwhisp", kind = "static")]
 extern "C" {
     fn doorwhisp_read(
-        bytes: *const u8, length: usize, widest: usize, highest: usize, out: *mut f32, out_length: usize, store: *mut u8,
-        store_length: usize, answer: *mut [u64; 5],
+        bytes: *const u8,
+        length: usize,
+        widest: usize,
+        highest: usize,
+        out: *mut f32,
+        out_length: usize,
+        store: *mut u8,
+        store_length: usize,
+        answer: *mut [u64; 5],
     );
     fn doorwhisp_write(
-        width: usize, height: usize, samples: *const f32, count: usize, out: *mut u8, out_length: usize, answer: *mut [u64; 5],
+        width: usize,
+        height: usize,
+        samples: *const f32,
+        count: usize,
+        out: *mut u8,
+        out_length: usize,
+        answer: *mut [u64; 5],
     );
 }
 
@@ -36,7 +49,17 @@ fn read_ours(file: &[u8], out: &mut [f32]) {
     let mut store = vec![0; 4 * WIDTH];
     let mut answer = [1; 5];
     unsafe {
-        doorwhisp_read(file.as_ptr(), file.len(), 65535, 65535, out.as_mut_ptr(), out.len(), store.as_mut_ptr(), store.len(), &mut answer)
+        doorwhisp_read(
+            file.as_ptr(),
+            file.len(),
+            65535,
+            65535,
+            out.as_mut_ptr(),
+            out.len(),
+            store.as_mut_ptr(),
+            store.len(),
+            &mut answer,
+        )
     };
     assert_eq!(answer, [0, 0, WIDTH as u64, HEIGHT as u64, file.len() as u64], "our reader's answer");
 }

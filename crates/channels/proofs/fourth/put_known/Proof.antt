@@ -1,4 +1,4 @@
--- `rows::fourth::put_known` meets its contract. The invariant: storing what is left gives what is wanted.
+-- `channels::fourth::put_known` meets its contract. The invariant: storing what is left gives what is wanted.
 use borrow.Author.Needs.{needs}
 use mathlib.Core.Path.{_≡_}
 use mathlib.Core.List.{List}
