@@ -4,7 +4,7 @@ use mathlib.Core.Path.{_≡_, refl}
 use mathlib.Core.Bool.{_||_}
 use Prim.Native.Nat.{_+_}
 use Rattle.writer.specs.Samples.{anyNear}
-use Rattle.writer.proofs.Laws.Samples.{near-again, near-end}
+use Rattle.writer.proofs.Laws.Near.{near-again, near-end}
 use Rattle.writer.proofs.samples.any_near.Statement.{statement}
 use Rattle.writer.proofs.samples.any_near.Tie as tie
 

@@ -4,7 +4,8 @@ use mathlib.Core.Path.{_≡_}
 use Prim.Native.Nat.{_+_, _-_, _*_, _<_, _≤_}
 use native.Mathlib.Omega.{arith}
 use Rattle.writer.specs.Samples.{firstBright}
-use Rattle.writer.proofs.Laws.Samples.{bright-start, bright-found, bright-again, bright-none, passed-start, pixel-within, row-within, row-ends}
+use Rattle.writer.proofs.Laws.Samples.{bright-start, bright-found, bright-again, bright-none, pixel-within, row-within, row-ends}
+use Rattle.writer.proofs.Laws.Near.{passed-start}
 use Rattle.writer.proofs.samples.first_bright.Statement.{statement}
 use Rattle.writer.proofs.samples.first_bright.Tie as tie
 

@@ -1,6 +1,6 @@
 -- `writer::samples::passed` meets its contract: where no sample is above 2^126, every pixel can be written.
 use borrow.Author.Needs.{needs}
-use Rattle.writer.proofs.Laws.Samples.{passed-all, passed-none}
+use Rattle.writer.proofs.Laws.Near.{passed-all, passed-none}
 use Rattle.writer.proofs.samples.passed.Statement.{statement}
 use Rattle.writer.proofs.samples.passed.Tie as tie
 
