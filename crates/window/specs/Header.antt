@@ -25,9 +25,12 @@ unfoldable pub endsFrom : ℕ → List ℕ → Bool
 endsFrom stage [] = false
 endsFrom stage (b ∷ bs) = eqb (stageOf stage b) 6 || endsFrom (stageOf stage b) bs
 
--- a refusal of the part is one of the file where it is that of the first line, where the file ends with the part, or where the header ends inside it
+-- A refusal of the part is one of the file where it is that of the first line and the part has the 11 bytes of the longest right one, where the
+-- file ends with the part, or where the header ends inside it.
 unfoldable pub refusedPart : Bool → List ℕ → Refusal → HeadPart
-refusedPart more part r = pick (eqb (r .number) 1) (Refused r) (pick (more && not (endsFrom 0 part)) Long (Refused r))
+refusedPart more part r =
+    pick (eqb (r .number) 1 && leb 11 (length part)) (Refused r)
+    (pick (more && not (endsFrom 0 part)) Long (Refused r))
 
 -- what a part says of the header, of which it answers so
 unfoldable pub headPart : Bool → List ℕ → Answer Head → HeadPart

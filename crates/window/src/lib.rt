@@ -8,7 +8,7 @@ ghost use mathlib.Core.Path.{_≡_};
 ghost use Prim.Native.Nat.{ℕ, _+_, _-_, _*_, _≤_, _<_};
 ghost use mathlib.Core.Bool.{_&&_};
 ghost use lib.ListN.{length, getD};
-ghost use lib.Dec.{leb};
+ghost use lib.Dec.{eqb, leb};
 ghost use Rattle.header.specs.Head.{paperOf};
 ghost use Rattle.window.specs.Header.{stageOf, endsFrom, refusedPart, headPart, HeadPromise, HeadWithin};
 ghost use Rattle.window.specs.Row.{rowPart, RowPromise, RowWithin};
@@ -107,11 +107,21 @@ fn header_ends(part: &[u8]) -> bool
     false
 }
 
-// What a part says of a header that it refuses. That the first line is wrong needs no more bytes.
+// Whether a refusal is that of the first line, and a part of that length has enough to say so: a right first line has 11 bytes at most.
+fn is_first_line(number: u8, length: usize) -> bool
+    ensures { λ r. ⌜ r ≡ eqb number 1 && leb 11 length ⌝ }
+{
+    if number == refusal::FIRST_LINE {
+        return 11 <= length;
+    }
+    false
+}
+
+// What a part says of a header that it refuses.
 fn refused_part(part: &[u8], more: bool, refusal: Refusal) -> HeadPart
     ensures { λ r. ⌜ r ≡ refusedPart more (now (part .entry)) refusal ⌝ }
 {
-    if refusal.number == refusal::FIRST_LINE {
+    if is_first_line(refusal.number, part.len()) {
         return HeadPart::Refused(refusal);
     }
     if more {

@@ -74,24 +74,32 @@ module _ (part : List ℕ) (i stage : ℕ) (w : Bool) (is : endsFrom stage (drop
 
 -- ---- What the code finds, case by case
 
-module _ (more : Bool) (part : List ℕ) (r : Refusal) where
-  pub refused-first : r .number ≡ 1 → Refused r ≡ refusedPart more part r
-  unfolding refusedPart
-  refused-first h = simp (eq-eqb (r .number) 1 h)
+-- the first line of a part of n bytes
+module _ (number n : ℕ) where
+  pub first-line : number ≡ 1 → leb 11 n ≡ (eqb number 1 && leb 11 n)
+  first-line h = simp (eq-eqb number 1 h)
 
-  module _ (h : r .number ≡ 1 → ⊥) where
+  pub no-first-line : (number ≡ 1 → ⊥) → false ≡ (eqb number 1 && leb 11 n)
+  no-first-line h = simp (ne-eqb number 1 h)
+
+module _ (more : Bool) (part : List ℕ) (r : Refusal) (n : ℕ) (en : n ≡ length part) (a : Bool) (ea : a ≡ (eqb (r .number) 1 && leb 11 n)) where
+  pub refused-first : a ≡ true → Refused r ≡ refusedPart more part r
+  unfolding refusedPart
+  refused-first h = simp (← en, sym ea ∙ h)
+
+  module _ (h : a ≡ false) where
     pub refused-whole : more ≡ false → Refused r ≡ refusedPart more part r
     unfolding refusedPart
-    refused-whole u = simp (ne-eqb (r .number) 1 h, u)
+    refused-whole u = simp (← en, sym ea ∙ h, u)
 
     module _ (u : more ≡ true) (b : Bool) (eb : b ≡ endsFrom 0 part) where
       pub refused-ended : b ≡ true → Refused r ≡ refusedPart more part r
       unfolding refusedPart
-      refused-ended v = simp (ne-eqb (r .number) 1 h, u, sym eb ∙ v)
+      refused-ended v = simp (← en, sym ea ∙ h, u, sym eb ∙ v)
 
       pub refused-long : b ≡ false → Long ≡ refusedPart more part r
       unfolding refusedPart
-      refused-long v = simp (ne-eqb (r .number) 1 h, u, sym eb ∙ v)
+      refused-long v = simp (← en, sym ea ∙ h, u, sym eb ∙ v)
 
 module _ (more : Bool) (part : List ℕ) (a : HeadAnswer) where
   module _ (head : Head) (e : a ≡ answer.Read head) (n : ℕ) (en : n ≡ length part) (b : Bool) (eb : b ≡ (more && leb n (head .taken))) where
@@ -135,7 +143,7 @@ read-within bytes head e =
 
 refused-within : (n : ℕ) (more : Bool) (part : List ℕ) (r : Refusal) → HeadWithin n (refusedPart more part r)
 unfolding refusedPart
-refused-within n more part r = by-test (HeadWithin n) (eqb (r .number) 1) (λ _. tt) (λ _. by-test (HeadWithin n) (more && not (endsFrom 0 part)) (λ _. tt) (λ _. tt))
+refused-within n more part r = by-test (HeadWithin n) (eqb (r .number) 1 && leb 11 (length part)) (λ _. tt) (λ _. by-test (HeadWithin n) (more && not (endsFrom 0 part)) (λ _. tt) (λ _. tt))
 
 answer-within : (part : List ℕ) (more : Bool) (a : Answer Head) → a ≡ headerOf part 65535 65535 → HeadWithin (length part) (headPart more part a)
 unfolding headPart

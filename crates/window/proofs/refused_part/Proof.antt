@@ -4,6 +4,9 @@ use Rattle.window.proofs.Laws.Header.{refused-first, refused-whole, ref
 use Rattle.window.proofs.refused_part.Statement.{statement}
 use Rattle.window.proofs.refused_part.Tie as tie
 
+is-first-line-requires : tie.Need-is-first-line-requires
+is-first-line-requires c κs = search needs
+
 returns : tie.Need-returns
 returns c = search refused-first
 
@@ -20,4 +23,4 @@ returns-4 : tie.Need-returns-4
 returns-4 c = search refused-whole
 
 pub refused-part-spec : {M : Type 1} → statement M
-refused-part-spec = tie.close (tie.spec returns header-ends-requires returns-2 returns-3 returns-4)
+refused-part-spec = tie.close (tie.spec is-first-line-requires returns header-ends-requires returns-2 returns-3 returns-4)
