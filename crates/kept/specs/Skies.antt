@@ -16,7 +16,7 @@ use Rattle.loss.specs.Document.{docUnits}
 use Rattle.header.specs.declared.Head.{Head}
 use Rattle.words.specs.Lines.{rgbeLine, lineFeed, space}
 use Rattle.words.specs.Fields.{minusY, plusX}
-use Rattle.runs.specs.Channel.{code}
+use Rattle.parts.specs.Channel.{code}
 use Rattle.reader.specs.Read.{crateRow, cratePixel, readBy}
 
 -- ---- What a row of the table says

@@ -1,13 +1,13 @@
 -- One row as it is written, where it is stored, and the worst row, by document 01, "Rows written". A pixel is four bytes of px.
-use Prim.Native.Nat.{ℕ, zero, suc, _+_, _*_, _/_, _%_}
+use Prim.Native.Nat.{ℕ, _+_, _*_, _/_, _%_}
 use mathlib.Core.Path.{_≡_}
 use mathlib.Core.Bool.{Bool, _&&_}
 use mathlib.Core.List.{List, [], _∷_, _++_}
-use lib.ListN.{length, getD}
+use lib.ListN.{length}
 use lib.Dec.{leb}
 use Rattle.steps.specs.Loop.{pick}
 use Rattle.steps.specs.Place.{bytesFrom, spread}
-use Rattle.runs.specs.Channel.{code}
+use Rattle.parts.specs.Channel.{code, channel}
 
 -- "Widths 8 to 32,767"
 unfoldable pub isCoded : ℕ → Bool
@@ -16,11 +16,6 @@ isCoded w = leb 8 w && leb w 32767
 -- "mark 2, 2, w/256, w mod 256"
 abbrev pub mark : ℕ → List ℕ
 mark w = 2 ∷ 2 ∷ (w / 256) ∷ (w % 256) ∷ []
-
--- a channel of w pixels: one byte in four, the first at place at
-abbrev pub channel : List ℕ → ℕ → ℕ → List ℕ
-channel px at zero = []
-channel px at (suc w) = getD px at 0 ∷ channel px (at + 4) w
 
 -- the mark, "then four channels"
 unfoldable pub codedRow : List ℕ → ℕ → ℕ → List ℕ

@@ -1,12 +1,11 @@
 // One channel as it is written: its length and its bytes are loops over the same parts.
-use crate::part;
 ghost use mathlib.Core.Path.{_≡_};
 ghost use Prim.Native.Nat.{ℕ, _+_, _*_, _<_, _≤_};
 ghost use lib.ListN.{length, getD};
 ghost use Rattle.steps.specs.Place.{spread};
-ghost use Rattle.runs.specs.Channel.{literals, code};
-ghost use Rattle.runs.specs.Row.{channel, Stored};
-ghost use Rattle.runs.specs.Part.{runOf};
+ghost use Rattle.parts.specs.Channel.{literals, code, channel};
+ghost use Rattle.parts.specs.Part.{runOf};
+ghost use Rattle.runs.specs.Row.{Stored};
 
 // How many bytes a run of n takes: none where n is 0.
 fn run_length(n: usize) -> usize
@@ -24,7 +23,7 @@ pub(crate) fn channel_length(px: &[u8], from: usize, w: usize) -> usize
     let mut left = w;
     let mut n = 0;
     while 0 < left {
-        let p = part::part_at(px, at, left);
+        let p = parts::part_at(px, at, left);
         let l = p.literals;
         let s = p.short;
         let r = p.long;
@@ -93,7 +92,7 @@ pub(crate) fn write_channel(px: &[u8], from: usize, w: usize, out: &mut [u8], to
     let mut left = w;
     let mut o = to;
     while 0 < left {
-        let p = part::part_at(px, at, left);
+        let p = parts::part_at(px, at, left);
         let l = p.literals;
         let s = p.short;
         let r = p.long;

@@ -1,6 +1,5 @@
 // The rows of a Radiance picture as they are written. A pixel is four bytes of px, and a channel one byte in four.
 mod channel;
-mod part;
 
 ghost use mathlib.Core.Path.{_≡_};
 ghost use Prim.Native.Nat.{_+_, _*_, _<_, _≤_};

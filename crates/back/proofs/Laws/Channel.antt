@@ -12,7 +12,7 @@ use Rattle.steps.specs.declared.Taken.{Taken}
 use Rattle.steps.specs.declared.Taken.the-variants.{Done}
 use Rattle.channels.specs.Channel.{chan, channelOf, channelOut, channelTurn}
 use Rattle.channels.proofs.Laws.Channel.{length-run, length-literals, span-run, span-literals, span-again, turn-done, channel-starts}
-use Rattle.runs.specs.Channel.{packet, code}
+use Rattle.parts.specs.Channel.{packet, code}
 use Rattle.back.proofs.Laws.Coded.{code-by}
 use Rattle.steps.proofs.Laws.Place.{spread-append, drop-next, drop-past, bytes-there}
 

@@ -18,10 +18,11 @@ use Rattle.flat.proofs.Laws.Flat.{pixel-ordinary, flat-starts, flat-done, flat-
 use Rattle.channels.specs.Channels.{chans, chansOut, chansTurn, channelsOf}
 use Rattle.channels.proofs.Laws.Channels.{chans-starts, chans-again, chans-done}
 use Rattle.rows.proofs.Laws.Row.{mark-by, kind-channels, row-by-width, row-channels}
-use Rattle.runs.specs.Channel.{code}
-use Rattle.runs.specs.Row.{isCoded, channel, codedRow, rowOf}
+use Rattle.parts.specs.Channel.{code, channel}
+use Rattle.runs.specs.Row.{isCoded, codedRow, rowOf}
 use Rattle.steps.proofs.Laws.Place.{spread-append, drop-next, drop-past, bytes-there}
-use Rattle.runs.proofs.Laws.Row.{length-channel, coded-widths, row-coded, row-flat, flat-size}
+use Rattle.parts.proofs.Laws.Places.{length-channel}
+use Rattle.runs.proofs.Laws.Row.{coded-widths, row-coded, row-flat, flat-size}
 use Rattle.back.proofs.Laws.Channel.{ReadAs, code-read}
 use Rattle.back.proofs.Laws.Weave.{bytes-four, weave, mark-covered}
 

@@ -15,7 +15,7 @@ use Rattle.steps.specs.Answer.{Answer}
 use Rattle.steps.proofs.Laws.Answer.{Passed}
 use Rattle.pixel.specs.Rgbe.{peak, tooBright}
 use Rattle.header.specs.declared.Head.{Head}
-use Rattle.runs.proofs.Laws.Cut.{lt-or-ge}
+use Rattle.parts.proofs.Laws.Cut.{lt-or-ge}
 use Rattle.reader.specs.Read.{crateRow, cratePixel, readBy, paperOf, ReadPromise}
 use Rattle.reader.specs.declared.ReadAnswer.{ReadAnswer}
 use Rattle.writer.specs.Samples.{firstBright}

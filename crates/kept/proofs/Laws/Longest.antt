@@ -16,7 +16,7 @@ use Rattle.steps.specs.Answer.{Answer, done, refused, refuse, Check, checked}
 use Rattle.steps.proofs.Laws.Answer.{differ, passed-by}
 use Rattle.header.specs.Written.{written}
 use Rattle.runs.specs.Row.{isCoded, worstRow}
-use Rattle.runs.proofs.Laws.Channel.{and-no}
+use Rattle.parts.proofs.Laws.Channel.{and-no}
 use Rattle.writer.proofs.Laws.Frame.{frame-worst}
 use Rattle.writer.proofs.Laws.Write.{stored-fits}
 use Rattle.writer.specs.Samples.{packed, firstBright}

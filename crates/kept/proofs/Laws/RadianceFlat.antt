@@ -17,7 +17,7 @@ use Rattle.flat.specs.Flat.{isRepeat, flatOf}
 use Rattle.rows.specs.Row.{isFlatWidth, isMark, rowOf}
 use Rattle.flat.proofs.Laws.Flat.{flat-starts}
 use Rattle.rows.proofs.Laws.Row.{narrow, not-narrow, mark-not, kind-flat, kind-pixel, row-by-width, row-flat, row-pixel}
-use Rattle.runs.proofs.Laws.Channel.{and-no}
+use Rattle.parts.proofs.Laws.Channel.{and-no}
 use Rattle.back.proofs.Laws.Row.{NoRepeat, coded-width, flat-there}
 use Rattle.kept.specs.Radiance.{after, isOldRun, Meaning, meaning, onward, flatFrom, flat, flatBytes, NoOldRun}
 use Rattle.kept.proofs.Laws.RadianceRows.{RowReads, all-bytes, behind}

@@ -14,7 +14,7 @@ use Rattle.steps.proofs.Laws.Turns.{and-left, and-right}
 use Rattle.pixel.specs.declared.Rgbe.{Rgbe}
 use Rattle.steps.specs.declared.Taken.the-variants.{Done}
 use Rattle.rows.specs.Row.{rowOf}
-use Rattle.runs.specs.Row.{channel}
+use Rattle.parts.specs.Channel.{channel}
 use Rattle.back.proofs.Laws.Channel.{ReadAs}
 use Rattle.back.proofs.Laws.Row.{FourRead, marked-there}
 use Rattle.kept.specs.Radiance.{component, pixels, components, mark, past, coded, flatBytes}

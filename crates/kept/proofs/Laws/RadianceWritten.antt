@@ -13,12 +13,13 @@ use lib.Seq.{take-append-seam, drop-append-seam}
 use Rattle.steps.specs.Loop.{pick}
 use Rattle.steps.specs.Place.{bytesFrom}
 use Rattle.pixel.specs.declared.Rgbe.{Rgbe}
-use Rattle.runs.specs.Channel.{packet, code}
+use Rattle.parts.specs.Channel.{packet, code, channel}
 use Rattle.flat.specs.Flat.{isRepeat}
 use Rattle.steps.proofs.Laws.Place.{length-bytes}
-use Rattle.runs.specs.Row.{isCoded, channel, codedRow, rowOf}
+use Rattle.runs.specs.Row.{isCoded, codedRow, rowOf}
 use Rattle.back.proofs.Laws.Coded.{code-by}
-use Rattle.runs.proofs.Laws.Row.{length-channel, row-coded, row-flat}
+use Rattle.parts.proofs.Laws.Places.{length-channel}
+use Rattle.runs.proofs.Laws.Row.{row-coded, row-flat}
 use Rattle.back.proofs.Laws.Row.{NoRepeat}
 use Rattle.back.proofs.Laws.Weave.{bytes-four}
 use Rattle.kept.specs.Radiance.{rgbe, Found, after, andThen, isOver, span, spans, component, pixels, components, mark, past, coded, isOldRun, flat, flatBytes, NoOldRun}

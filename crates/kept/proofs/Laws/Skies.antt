@@ -13,7 +13,7 @@ use Rattle.header.specs.Head.{fieldsOf, headChecks, headOf}
 use Rattle.flat.specs.Repeat.{lasts, copied, repeatTurn, repeatOf}
 use Rattle.flat.specs.Flat.{fourTo, isRepeat, repeated, pixelOf, goesOn, flatTurn, flatOf}
 use Rattle.rows.specs.Row.{isFlatWidth, kindOf, rowOf}
-use Rattle.runs.specs.Channel.{grow, cut, stretch, gather, code}
+use Rattle.parts.specs.Channel.{grow, cut, stretch, gather, code}
 use Rattle.reader.specs.Samples.{samplesFrom}
 use Rattle.reader.specs.Frame.{rowTurn, rowsOf}
 use Rattle.reader.specs.Read.{crateRow, cratePixel, readBy}

@@ -7,14 +7,14 @@ use native.Mathlib.Omega.{arith}
 use lib.ListN.{length, getD, take, drop, set, length-append, drop-of-length-le}
 use lib.Seq.{take-all}
 use Rattle.steps.specs.Place.{spread}
-use Rattle.runs.specs.Channel.{literals, code, gather, stretch, cut}
-use Rattle.runs.specs.Row.{channel, mark, codedRow, Stored, worstChannel}
-use Rattle.runs.specs.Part.{runOf, Parted}
-use Rattle.runs.proofs.Laws.Channel.{literals-packet, length-literals}
+use Rattle.parts.specs.Channel.{literals, code, gather, stretch, cut, channel}
+use Rattle.runs.specs.Row.{mark, codedRow, Stored, worstChannel}
+use Rattle.parts.specs.Part.{runOf, Parted}
+use Rattle.parts.proofs.Laws.Channel.{literals-packet, length-literals}
 use Rattle.steps.proofs.Laws.Place.{spread-append}
-use Rattle.runs.proofs.Laws.Row.{length-channel, drop-channel, take-channel, getD-channel}
-use Rattle.runs.proofs.Laws.Cut.{lt-or-ge}
-use Rattle.runs.proofs.Laws.Part.{run-some}
+use Rattle.parts.proofs.Laws.Places.{length-channel, drop-channel, take-channel, getD-channel}
+use Rattle.parts.proofs.Laws.Cut.{lt-or-ge}
+use Rattle.parts.proofs.Laws.Part.{run-some}
 
 -- once p has been stored, what is left to store
 stored-then : (out d : List ℕ) (o e : ℕ) (p q : List ℕ) → Stored out o p e d → spread 1 out o (p ++ q) ≡ spread 1 d e q

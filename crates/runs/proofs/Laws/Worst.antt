@@ -9,10 +9,11 @@ use native.Mathlib.Nat.{add-zero}
 use lib.ListN.{length, getD, replicate, length-append, length-replicate, List·getD-append}
 use lib.Seq.{getD-append-add}
 use Rattle.steps.specs.Loop.{pick}
-use Rattle.runs.specs.Channel.{Run, run, grow, cut, bytes, literals, packet, stretch, gather, code}
-use Rattle.runs.specs.Row.{channel, isCoded, rowOf, worstChannel, worstRow}
-use Rattle.runs.proofs.Laws.Channel.{bytes-cut, bytes-append, grow-other, length-literals, gather-short, gather-step, stretch-step}
-use Rattle.runs.proofs.Laws.Row.{length-channel, row-coded, flat-size, coded-size}
+use Rattle.parts.specs.Channel.{Run, run, grow, cut, bytes, literals, packet, stretch, gather, code, channel}
+use Rattle.runs.specs.Row.{isCoded, rowOf, worstChannel, worstRow}
+use Rattle.parts.proofs.Laws.Channel.{bytes-cut, bytes-append, grow-other, length-literals, gather-short, gather-step, stretch-step}
+use Rattle.parts.proofs.Laws.Places.{length-channel}
+use Rattle.runs.proofs.Laws.Row.{row-coded, flat-size, coded-size}
 
 -- ---- the bound
 

@@ -3,8 +3,8 @@ use Prim.Native.Nat.{ℕ, _+_, _*_, _≤_}
 use native.Mathlib.Omega.{arith}
 use borrow.Author.Needs.{needs}
 use lib.ListN.{length}
-use Rattle.runs.specs.Channel.{code}
-use Rattle.runs.specs.Row.{channel, worstChannel}
+use Rattle.parts.specs.Channel.{code, channel}
+use Rattle.runs.specs.Row.{worstChannel}
 use Rattle.runs.proofs.Laws.Worst.{channel-worst}
 use Rattle.runs.proofs.Laws.Row.{coded-size}
 use Rattle.runs.proofs.coded_length.Statement.{statement}

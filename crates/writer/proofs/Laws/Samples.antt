@@ -14,7 +14,7 @@ use Rattle.steps.specs.Place.{spread}
 use Rattle.pixel.specs.declared.Pixel.{Pixel}
 use Rattle.pixel.specs.declared.Rgbe.{Rgbe}
 use Rattle.pixel.specs.Rgbe.{bytesOf, tooBright}
-use Rattle.runs.proofs.Laws.Cut.{lt-or-ge}
+use Rattle.parts.proofs.Laws.Cut.{lt-or-ge}
 use Rattle.writer.specs.Samples.{pixelAt, four, packed, firstBright, FirstBright}
 
 -- ---- The bytes of pixels

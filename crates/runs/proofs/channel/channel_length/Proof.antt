@@ -4,8 +4,8 @@ use Prim.Native.Nat.{_+_, _*_, _≤_}
 use native.Mathlib.Omega.{arith}
 use borrow.Author.Needs.{needs}
 use lib.ListN.{length, getD}
-use Rattle.runs.specs.Channel.{code}
-use Rattle.runs.specs.Row.{channel, worstChannel}
+use Rattle.parts.specs.Channel.{code, channel}
+use Rattle.runs.specs.Row.{worstChannel}
 use Rattle.runs.proofs.Laws.Worst.{channel-worst}
 use Rattle.runs.proofs.Laws.Store.{part-size, literals-size, none-left, code-nil}
 use Rattle.runs.proofs.channel.channel_length.Statement.{statement}

@@ -4,7 +4,7 @@ use Prim.Native.Nat.{_+_, _*_}
 use native.Mathlib.Omega.{arith}
 use lib.ListN.{length, getD, length-set}
 use Rattle.steps.specs.Place.{spread}
-use Rattle.runs.specs.Row.{channel}
+use Rattle.parts.specs.Channel.{channel}
 use Rattle.runs.proofs.Laws.Store.{copy-turn, stored-end}
 use Rattle.runs.proofs.channel.copy_bytes.Statement.{statement}
 use Rattle.runs.proofs.channel.copy_bytes.Tie as tie

@@ -2,7 +2,7 @@
 use mathlib.Core.Path.{sym, ap}
 use native.Mathlib.Omega.{arith}
 use lib.ListN.{length}
-use Rattle.runs.proofs.Laws.Part.{run-none, run-some}
+use Rattle.parts.proofs.Laws.Part.{run-none, run-some}
 use Rattle.runs.proofs.channel.run_length.Statement.{statement}
 use Rattle.runs.proofs.channel.run_length.Tie as tie
 

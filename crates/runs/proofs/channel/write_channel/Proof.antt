@@ -4,8 +4,7 @@ use Prim.Native.Nat.{_+_, _*_}
 use native.Mathlib.Omega.{arith}
 use lib.ListN.{length}
 use Rattle.steps.specs.Place.{spread}
-use Rattle.runs.specs.Channel.{code}
-use Rattle.runs.specs.Row.{channel}
+use Rattle.parts.specs.Channel.{code, channel}
 use Rattle.runs.proofs.Laws.Store.{part-size, part-store, none-left, code-nil, stored-end}
 use Rattle.runs.proofs.channel.write_channel.Statement.{statement}
 use Rattle.runs.proofs.channel.write_channel.Tie as tie

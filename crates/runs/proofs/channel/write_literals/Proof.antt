@@ -6,8 +6,7 @@ use borrow.Author.Needs.{needs}
 use lib.ListN.{length, set, length-set}
 use Rattle.steps.specs.Place.{spread}
 use Rattle.steps.proofs.Laws.Place.{length-spread}
-use Rattle.runs.specs.Channel.{literals}
-use Rattle.runs.specs.Row.{channel}
+use Rattle.parts.specs.Channel.{literals, channel}
 use Rattle.runs.proofs.Laws.Store.{literals-size, literals-store, none-left, stored-end}
 use Rattle.runs.proofs.channel.write_literals.Statement.{statement}
 use Rattle.runs.proofs.channel.write_literals.Tie as tie

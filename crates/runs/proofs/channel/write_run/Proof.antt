@@ -4,7 +4,7 @@ use native.Mathlib.Omega.{arith}
 use borrow.Author.Needs.{needs}
 use lib.ListN.{length, getD, length-set}
 use Rattle.steps.specs.Place.{spread}
-use Rattle.runs.proofs.Laws.Part.{run-none, run-some}
+use Rattle.parts.proofs.Laws.Part.{run-none, run-some}
 use Rattle.runs.proofs.Laws.Store.{run-store}
 use Rattle.runs.proofs.channel.write_run.Statement.{statement}
 use Rattle.runs.proofs.channel.write_run.Tie as tie

@@ -1,0 +1,9 @@
+-- The laws of the definitions in `specs/`: a channel, its cut, its places, the scan, and the samples.
+pub mod Channel
+pub mod Cut
+pub mod Places
+pub mod Gather
+pub mod Front
+pub mod OneRun
+pub mod Part
+pub mod Samples

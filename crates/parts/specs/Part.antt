@@ -1,0 +1,76 @@
+-- What the scan of a channel promises: how the front of the channel is written.
+use Prim.Native.Nat.{ℕ, zero, suc, _+_, _-_, _*_, _<_, _≤_}
+use mathlib.Core.Path.{_≡_}
+use mathlib.Core.Logic.{_⊎_}
+use mathlib.Core.Bool.{Bool, false, _&&_}
+use mathlib.Core.List.{List, [], _∷_, _++_}
+use lib.ListN.{length, getD, take, drop}
+use lib.Dec.{eqb}
+use Rattle.steps.specs.Loop.{pick}
+use Rattle.parts.specs.Channel.{run, cut, literals, packet, gather, code}
+
+-- ---- the search for four equal bytes
+
+-- four bytes of the channel from place at on are v
+abbrev pub Four : List ℕ → ℕ → ℕ → Type 0
+Four px at v = (getD px at 0 ≡ v) × (getD px (at + 4) 0 ≡ v) × (getD px (at + 8) 0 ≡ v) × (getD px (at + 12) 0 ≡ v)
+
+-- these four bytes are equal
+abbrev pub FourEqual : List ℕ → ℕ → Type 0
+FourEqual px at = Four px at (getD px at 0)
+
+-- of four bytes from place at on, byte r differs from the one before it; or r is 0, and they are equal
+pub record Skip (px : List ℕ) (at r : ℕ) : Type 0 where
+  pub small : r ≤ 3
+  pub equal : r ≡ 0 → FourEqual px at
+  pub differ : 0 < r → getD px (at + 4 * (r - 1)) 0 ≡ getD px (at + 4 * r) 0 → ⊥
+
+-- the first h bytes of xs gather: they are cut into runs of at most 3
+pub record Gathers (xs : List ℕ) (h : ℕ) : Type 0 where
+  pub within : h ≤ length xs
+  pub short : h ≤ 3 * length (cut (take h xs))
+  pub gathers : code xs ≡ gather (cut (take h xs)) (cut (drop h xs))
+
+-- the search stops at byte r of n: at the end, or before four equal bytes
+abbrev pub Stops : List ℕ → ℕ → ℕ → ℕ → Type 0
+Stops px at n r = (r ≡ n) ⊎ ((r + 4 ≤ n) × FourEqual px (at + 4 * r))
+
+-- ---- the runs
+
+-- n bytes of the channel from place at on are equal
+abbrev pub Equal : List ℕ → ℕ → ℕ → Type 0
+Equal px at n = (k : ℕ) → k < n → getD px (at + 4 * k) 0 ≡ getD px at 0
+
+-- 2 or 3 bytes that are equal
+abbrev pub oneRun : List ℕ → Bool
+oneRun [] = false
+oneRun (a ∷ []) = false
+oneRun (a ∷ b ∷ []) = eqb b a
+oneRun (a ∷ b ∷ c ∷ []) = eqb b a && eqb c b
+oneRun (a ∷ b ∷ c ∷ d ∷ xs) = false
+
+-- of the h bytes ys that gather, l are literals and s a short run: all are the one or the other
+abbrev pub Share : List ℕ → ℕ → ℕ → ℕ → Type 0
+Share ys h l s = (l ≡ pick (oneRun ys) 0 h) × (s ≡ pick (oneRun ys) h 0)
+
+-- the first run of xs, which has n bytes, is a long one of r
+pub record Front (n : ℕ) (xs : List ℕ) (r : ℕ) : Type 0 where
+  pub long : 4 ≤ r
+  pub small : r ≤ 127
+  pub within : r ≤ n
+  pub front : cut xs ≡ run (getD xs 0 0) r ∷ cut (drop r xs)
+
+-- a run of n times v as it is written, which is nothing where n is 0
+abbrev pub runOf : ℕ → ℕ → List ℕ
+runOf v zero = []
+runOf v (suc n) = packet v (suc n)
+
+-- ---- the part
+
+-- xs, which has n bytes, starts with l that are literals, s that are a short run and r that are a long one
+pub record Parted (n : ℕ) (xs : List ℕ) (l s r : ℕ) : Type 0 where
+  pub some : 1 ≤ l + s + r
+  pub within : l + s + r ≤ n
+  pub short : s ≤ 127
+  pub small : r ≤ 127
+  pub parted : code xs ≡ literals 0 (take l xs) ++ (runOf (getD xs l 0) s ++ (runOf (getD xs (l + s) 0) r ++ code (drop (l + s + r) xs)))
