@@ -20,9 +20,9 @@ use Rattle.runs.specs.Row.{isCoded}
 use Rattle.reader.specs.Samples.{rgbeAt}
 use Rattle.reader.specs.Read.{crateRow, cratePixel, readBy, paperOf, ReadPromise}
 use Rattle.reader.specs.declared.ReadAnswer.{ReadAnswer}
-use Rattle.writer.specs.Samples.{pixelAt}
-use Rattle.writer.specs.Frame.{frameOf}
-use Rattle.writer.specs.Write.{fileOf, writeOf, WritePromise, Write4Promise}
+use Rattle.frames.specs.Samples.{pixelAt}
+use Rattle.frames.specs.Frame.{frameOf, fileOf}
+use Rattle.writer.specs.Write.{writeOf, WritePromise, Write4Promise}
 use Rattle.writer.specs.declared.WriteAnswer.the-variants.{Done}
 
 -- the pixel k of a frame, of three samples to a pixel

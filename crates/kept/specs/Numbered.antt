@@ -8,10 +8,9 @@ use Rattle.steps.specs.Answer.{Check, check}
 use Rattle.header.specs.Head.{headChecks, fieldsOf, headOf}
 use Rattle.reader.specs.Frame.{cleared, rowsOf, endsEarly}
 use Rattle.reader.specs.Read.{frameChecks, crateRow, cratePixel}
-use Rattle.writer.specs.Samples.{firstBright}
-use Rattle.writer.specs.Frame.{frameOf}
+use Rattle.frames.specs.Samples.{firstBright}
+use Rattle.frames.specs.Frame.{frameOf, fileOf}
 use Rattle.writer.specs.Write as writer
-use Rattle.writer.specs.Write.{fileOf}
 
 -- the reader: 1 to 8 before anything is written, and then 9
 unfoldable pub readChecks : List ℕ → ℕ → ℕ → List Float → List ℕ → List Check

@@ -1,8 +1,3 @@
--- The laws of the definitions in `specs/`, a file for each of its files; what the search for refusal 12 passes over, rows and the line between them, and what an answer tells.
-pub mod Samples
-pub mod Near
-pub mod Rows
-pub mod Line
-pub mod Frame
+-- The laws of the definitions in `specs/`, and what an answer tells.
 pub mod Write
 pub mod Told

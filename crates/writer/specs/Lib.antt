@@ -1,4 +1,2 @@
 -- The whole writer, by document 01: "Numbers returned" and "Rows written".
-pub mod Samples
-pub mod Frame
 pub mod Write

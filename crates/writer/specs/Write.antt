@@ -11,8 +11,8 @@ use Rattle.steps.specs.Place.{spread}
 use Rattle.steps.specs.Amount.{amountOf}
 use Rattle.steps.specs.declared.amount.Amount.{Amount}
 use Rattle.steps.specs.Answer.{Answer, done, refused, refuse, refusalOf, Check, check, checked}
-use Rattle.writer.specs.Samples.{packed, firstBright}
-use Rattle.writer.specs.Frame.{frameOf, worstOf}
+use Rattle.frames.specs.Samples.{firstBright}
+use Rattle.frames.specs.Frame.{frameOf, fileOf, worstOf}
 use Rattle.writer.specs.declared.WriteAnswer.{WriteAnswer}
 use Rattle.writer.specs.declared.WriteAnswer.the-variants.{Done, Refused}
 
@@ -43,10 +43,6 @@ Left = Answer ℕ × List ℕ
 -- check 13, and then the file is stored from the output's start on
 unfoldable pub stored : List ℕ → List ℕ → Left
 stored file out = checked (λ n. (refuse n, out)) (check 13 (ltb (length out) (length file)) ∷ []) (done (length file), spread 1 out 0 file)
-
--- the file of a frame of samples is that of its pixels' bytes
-abbrev pub fileOf : List Float → ℕ → ℕ → List ℕ
-fileOf samples w h = frameOf (packed samples 0 (w * h)) w h
 
 -- ---- The calls
 

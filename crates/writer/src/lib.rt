@@ -1,8 +1,8 @@
 // The whole writer, and how long a frame is.
 mod checks;
-mod frame;
-mod samples;
 
+use frames::frame;
+use frames::samples;
 use steps::amount;
 use steps::amount::Amount;
 use steps::refusal;

@@ -25,8 +25,8 @@ use Rattle.loss.proofs.Laws.Written.{written-bytes}
 use Rattle.flat.specs.Flat.{isRepeat}
 use Rattle.reader.specs.Samples.{rgbeAt, samplesFrom}
 use Rattle.reader.specs.Read.{crateRow, cratePixel, readBy}
-use Rattle.writer.specs.Samples.{pixelAt, packed}
-use Rattle.writer.specs.Write.{fileOf}
+use Rattle.frames.specs.Samples.{pixelAt, packed}
+use Rattle.frames.specs.Frame.{fileOf}
 use Rattle.kept.specs.Back.{pixel, Sizes, AllInRange, Enough, Beyond, Lies, step, NoOnes, ComesBack, ComesBack4}
 use Rattle.kept.proofs.Laws.Samples.{length-samples, pixel-of-samples, bytes-of-pixel}
 use Rattle.kept.proofs.Laws.Frame.{frame-back}

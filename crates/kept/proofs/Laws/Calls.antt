@@ -18,10 +18,10 @@ use Rattle.header.specs.declared.Head.{Head}
 use Rattle.parts.proofs.Laws.Cut.{lt-or-ge}
 use Rattle.reader.specs.Read.{crateRow, cratePixel, readBy, paperOf, ReadPromise}
 use Rattle.reader.specs.declared.ReadAnswer.{ReadAnswer}
-use Rattle.writer.specs.Samples.{firstBright}
-use Rattle.writer.specs.Frame.{frameOf}
-use Rattle.writer.specs.Write.{frameChecks, brightChecked, stored, fileOf, writeOf}
-use Rattle.writer.proofs.Laws.Samples.{first-named}
+use Rattle.frames.specs.Samples.{firstBright}
+use Rattle.frames.specs.Frame.{frameOf, fileOf}
+use Rattle.writer.specs.Write.{frameChecks, brightChecked, stored, writeOf}
+use Rattle.frames.proofs.Laws.Samples.{first-named}
 use Rattle.writer.proofs.Laws.Told.{Stored, write-told, write4-told}
 use Rattle.kept.specs.Back.{pixel, Sizes, Between, AllInRange, NoOnes, ReadBack, ReadBack4, CallsComeBack, CallsComeBack4, IsWritten}
 use Rattle.kept.proofs.Laws.Back.{read-back, read-back4}

@@ -26,7 +26,7 @@ use Rattle.reader.specs.Frame as reader
 use Rattle.reader.specs.Read.{answerOf, outcomeOf, crateRow, cratePixel, framed, readBy}
 use Rattle.reader.proofs.Laws.Frame.{row-next, rows-start, rows-done, rows-again}
 use Rattle.reader.proofs.Laws.Read.{frame-rows, read-frame}
-use Rattle.writer.specs.Frame.{rowsOf, frameOf}
+use Rattle.frames.specs.Frame.{rowsOf, frameOf}
 use Rattle.kept.proofs.Laws.Samples.{samples-stored, length-samples, samples-append}
 
 -- none of n pixels is taken for a repeat where rows of w are flat

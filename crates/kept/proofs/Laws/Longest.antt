@@ -17,10 +17,10 @@ use Rattle.steps.proofs.Laws.Answer.{differ, passed-by}
 use Rattle.header.specs.Written.{written}
 use Rattle.runs.specs.Row.{isCoded, worstRow}
 use Rattle.parts.proofs.Laws.Channel.{and-no}
-use Rattle.writer.proofs.Laws.Frame.{frame-worst}
+use Rattle.frames.proofs.Laws.Frame.{frame-worst}
 use Rattle.writer.proofs.Laws.Write.{stored-fits}
-use Rattle.writer.specs.Samples.{packed, firstBright}
-use Rattle.writer.specs.Frame.{frameOf, worstOf}
+use Rattle.frames.specs.Samples.{packed, firstBright}
+use Rattle.frames.specs.Frame.{frameOf, worstOf}
 use Rattle.writer.specs.Write.{frameChecks, brightChecked, stored, lengthOf, length4Of}
 use Rattle.kept.specs.Longest.{flatWorst, codedWorst}
 

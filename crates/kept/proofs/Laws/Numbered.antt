@@ -15,10 +15,10 @@ use Rattle.header.specs.Head.{headChecks, headerOf, fieldsOf, headOf}
 use Rattle.reader.specs.Frame.{cleared, rowsOf, endsEarly}
 use Rattle.reader.specs.Read.{frameChecks, answerOf, framed, crateRow, cratePixel, readBy}
 use Rattle.reader.proofs.Laws.Read.{rows-number}
-use Rattle.writer.specs.Samples.{firstBright}
-use Rattle.writer.specs.Frame.{frameOf, worstOf}
+use Rattle.frames.specs.Samples.{firstBright}
+use Rattle.frames.specs.Frame.{frameOf, worstOf, fileOf}
 use Rattle.writer.specs.Write as writer
-use Rattle.writer.specs.Write.{sizeChecks, brightChecked, stored, fileOf, lengthOf, length4Of, worstAnswer, writeOf, write4Of}
+use Rattle.writer.specs.Write.{sizeChecks, brightChecked, stored, lengthOf, length4Of, worstAnswer, writeOf, write4Of}
 use Rattle.kept.specs.Numbered.{readChecks, lengthChecks, writeChecks, write4Checks}
 
 -- `header::read`: 1 to 5

@@ -18,9 +18,9 @@ use Rattle.pixel.specs.Rgbe.{peak, tooBright, bytesOf}
 use Rattle.header.specs.Written.{written}
 use Rattle.runs.specs.Row.{rowOf, worstRow}
 use Rattle.runs.proofs.Laws.Worst.{pixels, row-reached}
-use Rattle.writer.specs.Samples.{pixelAt, four, packed, firstBright}
-use Rattle.writer.specs.Frame.{rowsOf, frameOf, worstOf}
-use Rattle.writer.specs.Write.{frameChecks, brightChecked, fileOf, lengthOf}
+use Rattle.frames.specs.Samples.{pixelAt, four, packed, firstBright}
+use Rattle.frames.specs.Frame.{rowsOf, frameOf, worstOf, fileOf}
+use Rattle.writer.specs.Write.{frameChecks, brightChecked, lengthOf}
 use Rattle.kept.specs.Longest.{one, twoAndAHalf, inTurn, checkered}
 
 -- ---- Pixels in turn

@@ -14,7 +14,7 @@ use Rattle.pixel.specs.declared.Pixel.{Pixel}
 use Rattle.pixel.specs.declared.Rgbe.{Rgbe}
 use Rattle.pixel.specs.Rgbe.{bytesOf}
 use Rattle.reader.specs.Samples.{SampleRule, rgbeAt, three, samplesFrom}
-use Rattle.writer.specs.Samples.{pixelAt, four, packed}
+use Rattle.frames.specs.Samples.{pixelAt, four, packed}
 
 -- ---- Bytes that agree
 

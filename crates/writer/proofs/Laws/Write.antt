@@ -16,10 +16,10 @@ use Rattle.steps.specs.declared.amount.Amount.{Amount}
 use Rattle.steps.specs.declared.amount.Amount.the-variants.{Number, None}
 use Rattle.steps.proofs.Laws.Answer.{Passed, pass}
 use Rattle.steps.proofs.Laws.Amount.{amount-is, amount-passes}
-use Rattle.writer.specs.Samples.{firstBright}
-use Rattle.writer.specs.Frame.{frameOf, worstOf}
-use Rattle.writer.specs.Write.{sizeChecks, frameChecks, failing, brightChecked, stored, fileOf, lengthOf, length4Of, worstAnswer, writeOf, write4Of}
-use Rattle.writer.proofs.Laws.Frame.{area-fits, count-of-fits}
+use Rattle.frames.specs.Samples.{firstBright}
+use Rattle.frames.specs.Frame.{frameOf, worstOf, fileOf}
+use Rattle.writer.specs.Write.{sizeChecks, frameChecks, failing, brightChecked, stored, lengthOf, length4Of, worstAnswer, writeOf, write4Of}
+use Rattle.frames.proofs.Laws.Frame.{area-fits, count-of-fits}
 
 -- ---- The first check that fails, by its number
 

@@ -1,0 +1,3 @@
+-- The file of a frame, of samples and of four-byte pixels.
+pub mod Samples
+pub mod Frame
