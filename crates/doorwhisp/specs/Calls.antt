@@ -8,7 +8,7 @@ use Rattle.pixel.specs.Rgbe.{crateUnits, pixelOf, packedOf}
 use Rattle.header.specs.Head.{headerOf}
 use Rattle.reader.specs.Read.{crateRow, cratePixel, readBy}
 use Rattle.writer.specs.Write.{lengthOf, length4Of, worstAnswer, writeOf, write4Of}
-use Rattle.doorwhisp.specs.Numbers.{sizes, single, numbers, counted, withOne, withTwo}
+use Rattle.numbers.specs.Numbers.{sizes, single, numbers, counted, withOne, withTwo}
 use Rattle.doorwhisp.specs.Pixels.{pixel, rgbe, samplesOf, packedInto}
 
 -- ---- The reader

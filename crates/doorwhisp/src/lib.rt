@@ -1,6 +1,4 @@
 // The calls for programs in C and Rust.
-mod answers;
-
 use pixel::Packed;
 use pixel::Pixel;
 use pixel::Rgbe;
@@ -29,7 +27,7 @@ pub extern "C" fn doorwhisp_read_header(
 )
     ensures { λ _. ⌜ ReadHeader (now (bytes .entry)) widest highest (now (answer .exit)) ⌝ }
 {
-    answers::head(answer, header::read(bytes, widest, highest));
+    numbers::head(answer, header::read(bytes, widest, highest));
 }
 
 // Reads a file's pixels into the output, by way of the row store.
@@ -44,7 +42,7 @@ pub extern "C" fn doorwhisp_read(
 )
     ensures { λ _. ⌜ Read (now (bytes .entry)) widest highest (now (out .entry)) (now (store .entry)) (now (answer .exit)) (now (out .exit)) (now (store .exit)) ⌝ }
 {
-    answers::read(answer, reader::read(bytes, widest, highest, out, store));
+    numbers::read(answer, reader::read(bytes, widest, highest, out, store));
 }
 
 // How many samples a frame has.
@@ -52,7 +50,7 @@ pub extern "C" fn doorwhisp_read(
 pub extern "C" fn doorwhisp_output_buffer_size(width: usize, height: usize, answer: &mut [u64; 5])
     ensures { λ _. ⌜ OutputBufferSize width height (now (answer .exit)) ⌝ }
 {
-    answers::amount(answer, reader::output_buffer_size(width, height));
+    numbers::amount(answer, reader::output_buffer_size(width, height));
 }
 
 // How long the file of a frame of samples is.
@@ -65,7 +63,7 @@ pub extern "C" fn doorwhisp_length(
 )
     ensures { λ _. ⌜ Length width height (now (samples .entry)) (now (answer .exit)) ⌝ }
 {
-    answers::written(answer, writer::length(width, height, samples));
+    numbers::written(answer, writer::length(width, height, samples));
 }
 
 // How long the file of a frame of four-byte pixels is.
@@ -78,7 +76,7 @@ pub extern "C" fn doorwhisp_length4(
 )
     ensures { λ _. ⌜ Length4 width height (now (pixels .entry)) (now (answer .exit)) ⌝ }
 {
-    answers::written(answer, writer::length4(width, height, pixels));
+    numbers::written(answer, writer::length4(width, height, pixels));
 }
 
 // The length that no file of that width and height passes.
@@ -86,7 +84,7 @@ pub extern "C" fn doorwhisp_length4(
 pub extern "C" fn doorwhisp_worst(width: usize, height: usize, answer: &mut [u64; 5])
     ensures { λ _. ⌜ Worst width height (now (answer .exit)) ⌝ }
 {
-    answers::written(answer, writer::worst(width, height));
+    numbers::written(answer, writer::worst(width, height));
 }
 
 // Writes the file of a frame of samples into the output.
@@ -100,7 +98,7 @@ pub extern "C" fn doorwhisp_write(
 )
     ensures { λ _. ⌜ Write width height (now (samples .entry)) (now (out .entry)) (now (answer .exit)) (now (out .exit)) ⌝ }
 {
-    answers::written(answer, writer::write(width, height, samples, out));
+    numbers::written(answer, writer::write(width, height, samples, out));
 }
 
 // Writes the file of a frame of four-byte pixels into the output.
@@ -114,7 +112,7 @@ pub extern "C" fn doorwhisp_write4(
 )
     ensures { λ _. ⌜ Write4 width height (now (pixels .entry)) (now (out .entry)) (now (answer .exit)) (now (out .exit)) ⌝ }
 {
-    answers::written(answer, writer::write4(width, height, pixels, out));
+    numbers::written(answer, writer::write4(width, height, pixels, out));
 }
 
 // The Rust's formula for the length of a file, which some files pass.
@@ -122,7 +120,7 @@ pub extern "C" fn doorwhisp_write4(
 pub extern "C" fn doorwhisp_expected_buffer_size(width: usize, height: usize, answer: &mut [u64; 5])
     ensures { λ _. ⌜ ExpectedBufferSize width height (now (answer .exit)) ⌝ }
 {
-    answers::amount(answer, writer::expected_buffer_size(width, height));
+    numbers::amount(answer, writer::expected_buffer_size(width, height));
 }
 
 // Four bytes to three samples.

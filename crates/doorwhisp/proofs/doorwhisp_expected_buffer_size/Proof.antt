@@ -1,6 +1,6 @@
 -- `doorwhisp_expected_buffer_size` meets its contract: the answer of `writer::expected_buffer_size` is put as it is.
 use borrow.Author.Needs.{needs}
-use Rattle.doorwhisp.proofs.Laws.Numbers.{as-counted}
+use Rattle.numbers.proofs.Laws.Numbers.{as-counted}
 use Rattle.doorwhisp.proofs.doorwhisp_expected_buffer_size.Statement.{statement}
 use Rattle.doorwhisp.proofs.doorwhisp_expected_buffer_size.Tie as tie
 

@@ -1,6 +1,6 @@
 -- `doorwhisp_length` meets its contract: the answer of `writer::length` is put as it is.
 use borrow.Author.Needs.{needs}
-use Rattle.doorwhisp.proofs.Laws.Numbers.{as-promised}
+use Rattle.numbers.proofs.Laws.Numbers.{as-promised}
 use Rattle.doorwhisp.proofs.doorwhisp_length.Statement.{statement}
 use Rattle.doorwhisp.proofs.doorwhisp_length.Tie as tie
 

@@ -1,6 +1,6 @@
 -- `doorwhisp_read` meets its contract: the answer of `reader::read` is put, and output and row store are as it left them.
 use borrow.Author.Needs.{needs}
-use Rattle.doorwhisp.proofs.Laws.Numbers.{as-promised-two}
+use Rattle.numbers.proofs.Laws.Numbers.{as-promised-two}
 use Rattle.doorwhisp.proofs.doorwhisp_read.Statement.{statement}
 use Rattle.doorwhisp.proofs.doorwhisp_read.Tie as tie
 

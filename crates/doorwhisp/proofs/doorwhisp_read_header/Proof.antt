@@ -1,6 +1,6 @@
 -- `doorwhisp_read_header` meets its contract: the answer of `header::read` is put as it is.
 use borrow.Author.Needs.{needs}
-use Rattle.doorwhisp.proofs.Laws.Numbers.{as-promised}
+use Rattle.numbers.proofs.Laws.Numbers.{as-promised}
 use Rattle.doorwhisp.proofs.doorwhisp_read_header.Statement.{statement}
 use Rattle.doorwhisp.proofs.doorwhisp_read_header.Tie as tie
 

@@ -1,6 +1,6 @@
 -- `doorwhisp_worst` meets its contract: the answer of `writer::worst` is put as it is.
 use borrow.Author.Needs.{needs}
-use Rattle.doorwhisp.proofs.Laws.Numbers.{as-promised}
+use Rattle.numbers.proofs.Laws.Numbers.{as-promised}
 use Rattle.doorwhisp.proofs.doorwhisp_worst.Statement.{statement}
 use Rattle.doorwhisp.proofs.doorwhisp_worst.Tie as tie
 

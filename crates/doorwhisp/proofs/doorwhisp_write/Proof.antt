@@ -1,6 +1,6 @@
 -- `doorwhisp_write` meets its contract: the answer of `writer::write` is put, and the output is as it left it.
 use borrow.Author.Needs.{needs}
-use Rattle.doorwhisp.proofs.Laws.Numbers.{as-promised-one}
+use Rattle.numbers.proofs.Laws.Numbers.{as-promised-one}
 use Rattle.doorwhisp.proofs.doorwhisp_write.Statement.{statement}
 use Rattle.doorwhisp.proofs.doorwhisp_write.Tie as tie
 

@@ -1,7 +1,7 @@
--- `answers::refused` meets its contract: number and place come first.
+-- `numbers::refused` meets its contract: number and place come first.
 use borrow.Author.Needs.{needs}
-use Rattle.doorwhisp.proofs.answers.refused.Statement.{statement}
-use Rattle.doorwhisp.proofs.answers.refused.Tie as tie
+use Rattle.numbers.proofs.refused.Statement.{statement}
+use Rattle.numbers.proofs.refused.Tie as tie
 
 cast-number : tie.Need-cast-t3
 cast-number c = search needs

@@ -4,7 +4,7 @@ use mathlib.Core.List.{List}
 use mathlib.Core.Path.{_≡_, sym, ap, _∙_}
 use Rattle.steps.specs.Answer.{Answer}
 use Rattle.steps.specs.declared.amount.Amount.{Amount}
-use Rattle.doorwhisp.specs.Numbers.{Values, single, numbers, counted, withOne, withTwo}
+use Rattle.numbers.specs.Numbers.{Values, single, numbers, counted, withOne, withTwo}
 
 -- an answer t that is the case k
 pub in-case : {A B : Type 0} (values : A → Values) (paper : B → Answer A) (t k : B) (answer : List ℕ)

@@ -1,10 +1,10 @@
--- `answers::written` meets its contract: the length is put, or the refusal.
+-- `numbers::written` meets its contract: the length is put, or the refusal.
 use borrow.Author.Needs.{needs}
 use Rattle.writer.specs.Write.{paperOf}
-use Rattle.doorwhisp.specs.Numbers.{single}
-use Rattle.doorwhisp.proofs.Laws.Numbers.{in-case}
-use Rattle.doorwhisp.proofs.answers.written.Statement.{statement}
-use Rattle.doorwhisp.proofs.answers.written.Tie as tie
+use Rattle.numbers.specs.Numbers.{single}
+use Rattle.numbers.proofs.Laws.Numbers.{in-case}
+use Rattle.numbers.proofs.written.Statement.{statement}
+use Rattle.numbers.proofs.written.Tie as tie
 
 enum-known-told : tie.Need-enum-known-told
 enum-known-told c = search needs

@@ -1,10 +1,10 @@
--- `answers::read` meets its contract: the sizes are put, or the refusal.
+-- `numbers::head` meets its contract: the sizes are put, or the refusal.
 use borrow.Author.Needs.{needs}
-use Rattle.reader.specs.Read.{paperOf}
-use Rattle.doorwhisp.specs.Numbers.{sizes}
-use Rattle.doorwhisp.proofs.Laws.Numbers.{in-case}
-use Rattle.doorwhisp.proofs.answers.read.Statement.{statement}
-use Rattle.doorwhisp.proofs.answers.read.Tie as tie
+use Rattle.header.specs.Head.{paperOf}
+use Rattle.numbers.specs.Numbers.{sizes}
+use Rattle.numbers.proofs.Laws.Numbers.{in-case}
+use Rattle.numbers.proofs.head.Statement.{statement}
+use Rattle.numbers.proofs.head.Tie as tie
 
 enum-known-told : tie.Need-enum-known-told
 enum-known-told c = search needs
@@ -24,7 +24,7 @@ returns c = search (in-case sizes paperOf)
 returns-2 : tie.Need-returns-2
 returns-2 c = search needs
 
-pub read-spec : {M : Type 1} → statement M
-read-spec =
+pub head-spec : {M : Type 1} → statement M
+head-spec =
     tie.close
     (tie.spec enum-known-told sizes-requires enum-known-told-2 refused-requires returns returns-2)

@@ -1,9 +1,9 @@
--- `answers::amount` meets its contract: a number is put, or that there is none.
+-- `numbers::amount` meets its contract: a number is put, or that there is none.
 use borrow.Author.Needs.{needs}
-use Rattle.doorwhisp.specs.Numbers.{single, counted}
-use Rattle.doorwhisp.proofs.Laws.Numbers.{in-case}
-use Rattle.doorwhisp.proofs.answers.amount.Statement.{statement}
-use Rattle.doorwhisp.proofs.answers.amount.Tie as tie
+use Rattle.numbers.specs.Numbers.{single, counted}
+use Rattle.numbers.proofs.Laws.Numbers.{in-case}
+use Rattle.numbers.proofs.amount.Statement.{statement}
+use Rattle.numbers.proofs.amount.Tie as tie
 
 enum-known-told : tie.Need-enum-known-told
 enum-known-told c = search needs

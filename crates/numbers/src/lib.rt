@@ -1,4 +1,4 @@
-// The five numbers of an answer.
+// The five numbers of an answer, as programs in C and Rust get them.
 use header::Head;
 use header::HeadAnswer;
 use reader::ReadAnswer;
@@ -11,7 +11,7 @@ ghost use Rattle.steps.specs.Answer.{done};
 ghost use Rattle.header.specs.Head as header;
 ghost use Rattle.reader.specs.Read as reader;
 ghost use Rattle.writer.specs.Write as writer;
-ghost use Rattle.doorwhisp.specs.Numbers.{sizes, single, numbers, counted};
+ghost use Rattle.numbers.specs.Numbers.{sizes, single, numbers, counted};
 
 // That there is no such number: it passes 2^64 - 1.
 const NONE: u64 = 255;
@@ -44,7 +44,7 @@ fn refused(answer: &mut [u64; 5], refusal: Refusal)
 }
 
 // What reading a header answers.
-pub(crate) fn head(answer: &mut [u64; 5], told: HeadAnswer)
+pub fn head(answer: &mut [u64; 5], told: HeadAnswer)
     ensures { λ _. ⌜ now (answer .exit) ≡ numbers sizes (header.paperOf told) ⌝ }
 {
     match told {
@@ -54,7 +54,7 @@ pub(crate) fn head(answer: &mut [u64; 5], told: HeadAnswer)
 }
 
 // What reading a file answers.
-pub(crate) fn read(answer: &mut [u64; 5], told: ReadAnswer)
+pub fn read(answer: &mut [u64; 5], told: ReadAnswer)
     ensures { λ _. ⌜ now (answer .exit) ≡ numbers sizes (reader.paperOf told) ⌝ }
 {
     match told {
@@ -64,7 +64,7 @@ pub(crate) fn read(answer: &mut [u64; 5], told: ReadAnswer)
 }
 
 // What a call of the writer answers.
-pub(crate) fn written(answer: &mut [u64; 5], told: WriteAnswer)
+pub fn written(answer: &mut [u64; 5], told: WriteAnswer)
     ensures { λ _. ⌜ now (answer .exit) ≡ numbers single (writer.paperOf told) ⌝ }
 {
     match told {
@@ -74,7 +74,7 @@ pub(crate) fn written(answer: &mut [u64; 5], told: WriteAnswer)
 }
 
 // A number, or that there is none.
-pub(crate) fn amount(answer: &mut [u64; 5], told: Amount)
+pub fn amount(answer: &mut [u64; 5], told: Amount)
     ensures { λ _. ⌜ now (answer .exit) ≡ numbers single (counted told) ⌝ }
 {
     match told {

@@ -1,0 +1,2 @@
+-- `Laws` has what the proofs of several functions use.
+pub mod Laws

@@ -1,0 +1,10 @@
+-- `numbers::single` meets its contract: the first value is the number.
+use borrow.Author.Needs.{needs}
+use Rattle.numbers.proofs.single.Statement.{statement}
+use Rattle.numbers.proofs.single.Tie as tie
+
+returns : tie.Need-returns
+returns c = search needs
+
+pub single-spec : {M : Type 1} → statement M
+single-spec = tie.close (tie.spec returns)

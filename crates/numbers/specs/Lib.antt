@@ -1,0 +1,2 @@
+-- The answer of any call as five numbers.
+pub mod Numbers
