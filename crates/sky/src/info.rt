@@ -10,8 +10,6 @@ use crate::say;
 use header::Head;
 use pixel::Rgbe;
 use survey::Totals;
-use survey::decimal;
-use survey::light;
 use writer::WriteAnswer;
 ghost use mathlib.Core.Path.{_≡_};
 ghost use Prim.Native.Nat.{_^_, _≤_, _<_};

@@ -1,5 +1,3 @@
--- What is asked of a row's pixels: the light of one, the totals of many, those that a flat row cannot hold, and light in decimal.
-pub mod Light
+-- What is asked of a row's pixels: the totals of many, and those that a flat row cannot hold.
 pub mod Survey
 pub mod Repeat
-pub mod Decimal

@@ -6,7 +6,7 @@ use Rattle.steps.specs.Loop.{pick}
 use Rattle.pixel.specs.declared.Rgbe.{Rgbe}
 use Rattle.pixel.specs.Rgbe.{black}
 use Rattle.reader.specs.Samples.{rgbeAt}
-use Rattle.survey.specs.Light.{isBlack, isMasked, darker, brighter}
+use Rattle.light.specs.Light.{isBlack, isMasked, darker, brighter}
 use Rattle.survey.specs.declared.Totals.{Totals}
 
 -- before the first pixel

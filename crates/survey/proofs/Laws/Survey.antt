@@ -7,7 +7,7 @@ use native.Mathlib.Nat.{not-suc-le-zero}
 use native.Mathlib.Omega.{arith}
 use Rattle.pixel.specs.declared.Rgbe.{Rgbe}
 use Rattle.reader.specs.Samples.{rgbeAt}
-use Rattle.survey.specs.Light.{isBlack, isMasked, darker, brighter}
+use Rattle.light.specs.Light.{isBlack, isMasked, darker, brighter}
 use Rattle.survey.specs.Survey.{counted, seen, surveyOf}
 use Rattle.survey.specs.declared.Totals.{Totals}
 

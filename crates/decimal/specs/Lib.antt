@@ -1,0 +1,2 @@
+-- A whole number over a power of two, in decimal.
+pub mod Decimal

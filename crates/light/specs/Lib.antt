@@ -1,0 +1,2 @@
+-- The light of one pixel.
+pub mod Light
