@@ -8,7 +8,7 @@ ghost use lib.ListN.{length};
 ghost use Rattle.flat.specs.Flat.{flat, fourTo, isRepeat, repeated, pixelOf, flatOf};
 
 // Whether the pixel at p starts 1, 1, 1.
-fn is_repeat(src: &[u8], p: usize) -> bool
+pub fn is_repeat(src: &[u8], p: usize) -> bool
     requires { ⌜ p + 4 ≤ length (now src) ⌝ }
     ensures { λ r. ⌜ r ≡ isRepeat (now (src .entry)) p ⌝ }
 {

@@ -1,23 +1,8 @@
 // Pixels that a flat row cannot hold: one that starts 1, 1, 1 is read as an old run.
 ghost use mathlib.Core.Path.{_≡_};
-ghost use Prim.Native.Nat.{_+_, _*_, _≤_};
+ghost use Prim.Native.Nat.{_*_, _≤_};
 ghost use lib.ListN.{length};
-ghost use Rattle.flat.specs.Flat.{isRepeat};
 ghost use Rattle.survey.specs.Repeat.{anyRepeat};
-
-// Whether the pixel from a place on starts 1, 1, 1.
-fn is_repeat(store: &[u8], i: usize) -> bool
-    requires { ⌜ i + 4 ≤ length (now store) ⌝ }
-    ensures { λ r. ⌜ r ≡ isRepeat (now (store .entry)) i ⌝ }
-{
-    if store[i] != 1 {
-        return false;
-    }
-    if store[i + 1] != 1 {
-        return false;
-    }
-    store[i + 2] == 1
-}
 
 // Whether one of the n pixels of a row starts 1, 1, 1.
 pub fn any_repeat(store: &[u8], n: usize) -> bool
@@ -27,7 +12,7 @@ pub fn any_repeat(store: &[u8], n: usize) -> bool
     let mut i = 0;
     let mut left = n;
     while 0 < left {
-        if is_repeat(store, i) {
+        if flat::is_repeat(store, i) {
             return true;
         }
         i += 4;
