@@ -1,7 +1,7 @@
 -- The light of one pixel, over whole numbers of 2^-149: its largest sample, as the crate reading shows it.
 use Prim.Native.Nat.{ℕ, max}
 use mathlib.Core.Bool.{Bool, not, _&&_, _||_}
-use lib.Dec.{ltb, leb, eqb}
+use lib.Dec.{ltb, eqb}
 use Rattle.steps.specs.Loop.{pick}
 use Rattle.pixel.specs.declared.Rgbe.{Rgbe}
 use Rattle.pixel.specs.Rgbe.{crateUnits}

@@ -8,7 +8,7 @@ use Rattle.steps.specs.Loop.{pick}
 use Rattle.channels.specs.Channels.{channelsOf}
 use Rattle.flat.specs.Flat.{flatOf}
 use Rattle.steps.specs.declared.Taken.{Taken}
-use Rattle.steps.specs.declared.Taken.the-variants.{Done, Short}
+use Rattle.steps.specs.declared.Taken.the-variants.{Short}
 use Rattle.rows.specs.declared.kind.Kind.{Kind}
 use Rattle.rows.specs.declared.kind.Kind.the-variants.{Missing, Flat, Pixel, Channels}
 

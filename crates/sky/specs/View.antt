@@ -1,7 +1,6 @@
 -- What holds of the window on a file, and of what is answered with it.
 use Prim.{Unit}
 use Prim.Native.Nat.{_≤_}
-use Rattle.header.specs.declared.Head.{Head}
 use Rattle.sky.specs.declared.file.View.{View}
 use Rattle.sky.specs.declared.file.Start.{Start}
 use Rattle.sky.specs.declared.file.Start.the-variants as start

@@ -1,6 +1,5 @@
 -- `decimal::reduced` meets its contract. The invariant: the number is the same.
 use borrow.Author.Needs.{needs}
-use mathlib.Core.Logic.{inl, inr}
 use mathlib.Core.Path.{_≡_, refl}
 use Prim.Native.Nat.{_*_, _^_, _≤_}
 use native.Mathlib.Omega.{arith}

@@ -7,7 +7,7 @@ use native.Mathlib.Nat.{lt-of-lt-of-le, le-trans, le-of-eq, mul-le-mul-right, mu
 use native.Mathlib.Omega.{arith}
 use borrow.Author.Tests.{eq-eqb, ne-eqb, le-ltb, lt-ltb, ltb-true}
 use lib.Dec.{T, ltb, eqb}
-use lib.Ieee.{Float, nan, inf, fin, binary32, ofBits, nanBits, isNan, eq, div, toBits}
+use lib.Ieee.{Float, nan, inf, fin, binary32, ofBits, nanBits, isNan, div}
 use lib.Ieee.Bits.{nanBits-above, nanBits-is}
 use lib.ListN.{length, getD, set, take, drop, length-take, length-drop}
 use lib.Seq.{take-all}

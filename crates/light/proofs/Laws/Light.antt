@@ -1,15 +1,15 @@
 -- The laws of `specs/Light.antt`.
 use Prim.Native.Nat.{ℕ, _+_, _-_, _*_, _%_, _^_, _<_, _≤_, min, max}
 use mathlib.Core.Bool.{Bool, true, false}
-use mathlib.Core.Logic.{⊎-elim, _⊎_, inl, inr}
-use mathlib.Core.Path.{_≡_, refl, sym, ap, _∙_}
+use mathlib.Core.Logic.{⊎-elim, _⊎_}
+use mathlib.Core.Path.{_≡_, sym, ap, _∙_}
 use native.Mathlib.Nat.{mul-le-mul-left, mul-le-mul-right, mul-lt-mul-of-pos-right, lt-of-mul-lt-mul-right}
 use native.Mathlib.Omega.{arith}
-use borrow.Author.Tests.{eq-eqb, ne-eqb, lt-ltb, le-ltb}
+use borrow.Author.Tests.{ne-eqb, lt-ltb, le-ltb}
 use lib.Dec.{ltb, eqb}
 use lib.Pow.{pow-pos, pow-mono, shl-exact}
 use Rattle.pixel.specs.declared.Rgbe.{Rgbe}
-use Rattle.pixel.specs.Rgbe.{crateShift, crateScale, crateUnits}
+use Rattle.pixel.specs.Rgbe.{crateShift, crateUnits}
 use Rattle.pixel.proofs.Laws.Numbers.{either, same-test, mul-pow-pow}
 use Rattle.pixel.proofs.Laws.Scales.{crate-high, crate-low, crate-at, crate-none}
 use Rattle.light.specs.Light.{lightOf, isBlack, isMasked, darker, brighter}

@@ -1,27 +1,26 @@
 -- A row that is done before the end of a part is the same row in the whole file: what comes after the part changes nothing.
 use Prim.{Unit}
-use Prim.Native.Nat.{ℕ, zero, suc, _+_, _-_, _*_, _^_, min, _<_, _≤_}
-use mathlib.Core.Bool.{Bool, true, false, _&&_}
+use Prim.Native.Nat.{ℕ, zero, suc, _+_, _-_, min, _<_, _≤_}
+use mathlib.Core.Bool.{Bool, true, false}
 use mathlib.Core.List.{List, [], _++_}
-use mathlib.Core.Path.{_≡_, refl, sym, ap, _∙_, subst}
+use mathlib.Core.Path.{_≡_, refl, sym, ap, _∙_}
 use native.Mathlib.Nat.{not-suc-le-zero}
 use native.Mathlib.Omega.{arith}
-use borrow.Author.Tests.{lt-ltb, le-ltb, lt-leb, ltb-true, ltb-false, leb-false}
-use lib.ListN.{length, getD, set, replicate, length-append, List·getD-append}
+use borrow.Author.Tests.{lt-ltb, le-ltb, lt-leb, ltb-false, leb-false}
+use lib.ListN.{length, getD, length-append, List·getD-append}
 use lib.Dec.{ltb, leb, eqb}
-use Rattle.steps.specs.Loop.{pick, Turn, more, halt, lead, run}
-use Rattle.steps.specs.Place.{bytesFrom, spread}
-use Rattle.steps.proofs.Laws.Turns.{by-test, Leads, run-keeps}
+use Rattle.steps.specs.Loop.{Turn, more, halt, lead, run}
+use Rattle.steps.specs.Place.{bytesFrom}
+use Rattle.steps.proofs.Laws.Turns.{Leads, run-keeps}
 use Rattle.steps.specs.declared.Taken.{Taken}
 use Rattle.steps.specs.declared.Taken.the-variants.{Done, Short}
 use Rattle.rows.specs.declared.kind.Kind.{Kind}
 use Rattle.rows.specs.declared.kind.Kind.the-variants as kind
-use Rattle.channels.specs.Channel.{Chan, chan, isRun, spanLength, spanBytes, spanTaken, spanOf, spanAt, channelTurn, channelOut, channelOf}
-use Rattle.flat.specs.Flat.{Flat, flat, fourTo, isRepeat, repeated, ordinary, pixelOf, goesOn, flatTurn, flatOut, flatOf}
+use Rattle.channels.specs.Channel.{Chan, chan, isRun, spanBytes, spanTaken, spanOf, spanAt, channelTurn, channelOut, channelOf}
+use Rattle.flat.specs.Flat.{Flat, flat, fourTo, isRepeat, repeated, pixelOf, goesOn, flatTurn, flatOut, flatOf}
 use Rattle.channels.specs.Channels.{Chans, chans, afterChannel, chansTurn, chansOut, channelsOf}
-use Rattle.rows.specs.Row.{isFlatWidth, isMark, kindOf, restOf, rowOf}
+use Rattle.rows.specs.Row.{isFlatWidth, kindOf, restOf, rowOf}
 use Rattle.channels.proofs.Laws.Channel.{channel-cases, at-onward, turn-done}
-use Rattle.flat.proofs.Laws.Flat.{flat-cases, pixel-at}
 use Rattle.channels.proofs.Laws.Channels.{chans-cases}
 
 -- ---- Two machines that take the same turns

@@ -4,13 +4,13 @@ use native.Mathlib.Omega.{arith}
 use mathlib.Core.List.{List}
 use mathlib.Core.Bool.{Bool, true, false, _||_}
 use mathlib.Core.Path.{_≡_, refl, sym, ap, _∙_}
-use borrow.Author.Tests.{lt-ltb, le-ltb, ltb-true, ltb-false, le-leb, lt-leb, eq-eqb, ne-eqb}
+use borrow.Author.Tests.{lt-ltb, le-ltb, ltb-false, le-leb, lt-leb, eq-eqb, ne-eqb}
 use lib.ListN.{length, getD, set}
 use lib.Dec.{ltb}
 use Rattle.steps.specs.Loop.{pick}
 use Rattle.flat.specs.Flat.{flatOf}
 use Rattle.steps.specs.declared.Taken.{Taken}
-use Rattle.steps.specs.declared.Taken.the-variants.{Done, Short}
+use Rattle.steps.specs.declared.Taken.the-variants.{Short}
 use Rattle.rows.specs.declared.kind.Kind.{Kind}
 use Rattle.rows.specs.declared.kind.Kind.the-variants.{Missing, Flat, Pixel, Channels}
 use Rattle.channels.specs.Channels.{channelsOf}

@@ -1,5 +1,5 @@
 -- How much a row, a header and a power of two can be.
-use Prim.Native.Nat.{ℕ, _+_, _*_, _/_, _%_, _^_, _<_, _≤_}
+use Prim.Native.Nat.{ℕ, _+_, _*_, _%_, _^_, _<_, _≤_}
 use mathlib.Core.Bool.{_&&_}
 use mathlib.Core.List.{List}
 use mathlib.Core.Path.{_≡_, refl, _∙_}
@@ -10,7 +10,7 @@ use lib.ListN.{length, take}
 use lib.Seq.{length-take-le}
 use lib.Dec.{leb}
 use lib.Pow.{pow-pos, pow-mono, shl-exact}
-use Rattle.steps.proofs.Laws.Turns.{by-test, and-left, and-right}
+use Rattle.steps.proofs.Laws.Turns.{by-test, and-right}
 use Rattle.pixel.specs.Rgbe.{crateShift}
 use Rattle.pixel.proofs.Laws.Scales.{crate-bounds}
 use Rattle.header.specs.Written.{written}

@@ -1,7 +1,7 @@
 -- `survey::row` meets its contract. The invariant: what is left, added, gives what is wanted, and the counts have room.
 use borrow.Author.Needs.{needs}
 use mathlib.Core.Path.{_≡_, refl}
-use Prim.Native.Nat.{_+_, _*_, _<_, _≤_}
+use Prim.Native.Nat.{_+_, _*_, _≤_}
 use native.Mathlib.Omega.{arith}
 use lib.ListN.{length}
 use Rattle.survey.specs.Survey.{surveyOf}

@@ -1,6 +1,6 @@
 -- `window::slide` meets its contract. The invariant: so many bytes are moved, and those behind them are as they were.
 use borrow.Author.Needs.{needs}
-use mathlib.Core.Path.{_≡_, refl}
+use mathlib.Core.Path.{_≡_}
 use Prim.Native.Nat.{_+_, _-_, _≤_}
 use native.Mathlib.Omega.{arith}
 use lib.ListN.{length}
