@@ -1,4 +1,4 @@
--- One channel of one row, by document 01, "Rows read".
+-- One channel of one row, by document 01, "Rows read", over a rule for its counts.
 use Prim.Native.Nat.{ℕ, _+_, _-_, _*_, min}
 use mathlib.Core.List.{List}
 use mathlib.Core.Bool.{Bool}
@@ -7,7 +7,7 @@ use lib.Dec.{ltb}
 use Rattle.steps.specs.Loop.{pick, Turn, more, halt, run}
 use Rattle.steps.specs.Place.{bytesFrom, spread}
 use Rattle.steps.specs.declared.Taken.{Taken}
-use Rattle.steps.specs.declared.Taken.the-variants.{Done, Short}
+use Rattle.steps.specs.declared.Taken.the-variants.{Done, Fault}
 
 -- how far a channel is: the next place in the input, how many of its bytes are done, and the row store
 pub record Chan : Type 0 where
@@ -47,25 +47,39 @@ spanOf src channel c n x = record {
   store = spread 4 (x .store) (channel + 4 * x .done) (spanBytes src (x .at + 1) c n);
 }
 
--- ---- The channel
+-- ---- What a reading does with a count
 
--- "A run or literal stops at the row's end, and unread literal bytes stay in the input."
-unfoldable pub spanAt : List ℕ → ℕ → ℕ → Chan → Chan
-spanAt src channel width x =
-    let c = getD src (x .at) 0 in
-    spanOf src channel c (min (spanLength c) (width - x .done)) x
+-- so many of the bytes that it asks for are put into the channel; or the row is at fault, by the number of its refusal
+pub data Count : Type 0 where
+  span : ℕ → Count
+  fault : ℕ → Count
+
+-- of the input, the count's place, how many bytes of the channel are done, and the width
+abbrev pub CountRule : Type 0
+CountRule = List ℕ → ℕ → ℕ → ℕ → Count
+
+-- the crate reading: "A run or literal stops at the row's end, and unread literal bytes stay in the input."
+unfoldable pub crateCount : CountRule
+crateCount src at done width = span (min (spanLength (getD src at 0)) (width - done))
+
+-- ---- The channel, by any such rule
+
+-- what a count does: its bytes are put, or the row is at fault
+abbrev pub counted : List ℕ → ℕ → Chan → Count → Turn Chan (Taken × List ℕ)
+counted src channel x (span n) = more (spanOf src channel (getD src (x .at) 0) n x)
+counted src channel x (fault number) = halt (Fault number, x .store)
 
 -- one more count, until the row's end; "A missing count is refusal 9"
-unfoldable pub channelTurn : List ℕ → ℕ → ℕ → Chan → Turn Chan (Taken × List ℕ)
-channelTurn src channel width x =
+unfoldable pub channelTurn : CountRule → List ℕ → ℕ → ℕ → Chan → Turn Chan (Taken × List ℕ)
+channelTurn rule src channel width x =
     pick (ltb (x .done) width)
-    (pick (ltb (x .at) (length src)) (more (spanAt src channel width x)) (halt (Short, x .store)))
+    (pick (ltb (x .at) (length src)) (counted src channel x (rule src (x .at) (x .done) width)) (halt (Fault 9, x .store)))
     (halt (Done (x .at), x .store))
 
 -- where the turns are used up, which never happens
 abbrev pub channelOut : Chan → Taken × List ℕ
-channelOut x = (Short, x .store)
+channelOut x = (Fault 9, x .store)
 
 -- the channel, from a place of the input on. Each turn but the last takes a byte, so the turns never run out
-unfoldable pub channelOf : List ℕ → ℕ → List ℕ → ℕ → ℕ → Taken × List ℕ
-channelOf src at store channel width = run (channelTurn src channel width) channelOut (length src + 1) (chan at 0 store)
+unfoldable pub channelOf : CountRule → List ℕ → ℕ → List ℕ → ℕ → ℕ → Taken × List ℕ
+channelOf rule src at store channel width = run (channelTurn rule src channel width) channelOut (length src + 1) (chan at 0 store)

@@ -2,10 +2,11 @@
 mod fourth;
 
 use steps::Taken;
+use steps::refusal;
 ghost use mathlib.Core.Path.{_≡_};
 ghost use Prim.Native.Nat.{_+_, _*_, _≤_, _<_};
 ghost use lib.ListN.{length};
-ghost use Rattle.channels.specs.Channel.{chan, spanLength, spanOf, channelOf};
+ghost use Rattle.channels.specs.Channel.{chan, spanLength, spanOf, crateCount, channelOf};
 ghost use Rattle.channels.specs.Channels.{channelsOf};
 
 // Where a count and its bytes end: in the input, and in the channel.
@@ -50,16 +51,18 @@ fn put_span(
     }
 }
 
-// One channel: every fourth place of the store from the channel's own. A count stops at the row's end.
+// One channel by the crate reading: every fourth place of the store from the channel's own. A count stops at the row's end.
 fn read_channel(src: &[u8], at: usize, store: &mut [u8], channel: usize, width: usize) -> Taken
     requires { ⌜ (channel < 4) × (4 * width ≤ length (now store)) ⌝ }
-    ensures { λ r. ⌜ (r, now (store .exit)) ≡ channelOf (now (src .entry)) at (now (store .entry)) channel width ⌝ }
+    ensures { λ r. ⌜ (r, now (store .exit)) ≡ channelOf crateCount (now (src .entry)) at (now (store .entry)) channel width ⌝ }
 {
     let mut p = at;
     let mut done = 0;
     while done < width {
         if src.len() <= p {
-            return Taken::Short;
+            return Taken::Fault {
+                number: refusal::BYTES_END,
+            };
         }
         let c = steps::wide(src[p]);
         let n = steps::least(span_length(c), width - done);
@@ -70,10 +73,10 @@ fn read_channel(src: &[u8], at: usize, store: &mut [u8], channel: usize, width: 
     Taken::Done { next: p }
 }
 
-// The four channels, one after another.
+// The four channels by the crate reading, one after another.
 pub fn read_channels(src: &[u8], at: usize, store: &mut [u8], width: usize) -> Taken
     requires { ⌜ 4 * width ≤ length (now store) ⌝ }
-    ensures { λ r. ⌜ (r, now (store .exit)) ≡ channelsOf (now (src .entry)) at (now (store .entry)) width ⌝ }
+    ensures { λ r. ⌜ (r, now (store .exit)) ≡ channelsOf crateCount (now (src .entry)) at (now (store .entry)) width ⌝ }
 {
     let mut p = at;
     let mut channel = 0;
@@ -83,8 +86,8 @@ pub fn read_channels(src: &[u8], at: usize, store: &mut [u8], width: usize) -> T
             Taken::Done { next } => {
                 p = next;
             }
-            Taken::Short => {
-                return Taken::Short;
+            Taken::Fault { number } => {
+                return Taken::Fault { number };
             }
         }
         channel += 1;

@@ -2,10 +2,12 @@
 mod repeat;
 
 use steps::Taken;
+use steps::refusal;
 ghost use mathlib.Core.Path.{_≡_};
 ghost use Prim.Native.Nat.{_+_, _*_, _≤_, _<_};
 ghost use lib.ListN.{length};
-ghost use Rattle.flat.specs.Flat.{flat, fourTo, isRepeat, repeated, pixelOf, flatOf};
+ghost use Rattle.flat.specs.Flat.{flat, fourTo, isRepeat, repeated, crateFlat, flatOf};
+ghost use Rattle.flat.specs.Inner.{pixelOf};
 
 // Whether the pixel at p starts 1, 1, 1.
 pub fn is_repeat(src: &[u8], p: usize) -> bool
@@ -78,10 +80,10 @@ fn read_pixel(
     }
 }
 
-// The flat part that starts at byte start of the store.
+// The flat part that starts at byte start of the store, by the crate reading.
 pub fn read_flat(src: &[u8], at: usize, store: &mut [u8], start: usize, wanted: usize) -> Taken
     requires { ⌜ (start ≤ 4) × (start + 4 * wanted ≤ length (now store)) ⌝ }
-    ensures { λ r. ⌜ (r, now (store .exit)) ≡ flatOf (now (src .entry)) at (now (store .entry)) start wanted ⌝ }
+    ensures { λ r. ⌜ (r, now (store .exit)) ≡ flatOf crateFlat (now (src .entry)) at (now (store .entry)) start wanted ⌝ }
 {
     let mut p = at;
     let mut place = start;
@@ -94,7 +96,9 @@ pub fn read_flat(src: &[u8], at: usize, store: &mut [u8], start: usize, wanted: 
         let there = steps::less(src.len(), p);
         if there < 4 {
             steps::put_bytes(src, p, store, place, there);
-            return Taken::Short;
+            return Taken::Fault {
+                number: refusal::BYTES_END,
+            };
         }
         let x = read_pixel(src, p, store, start, place, left, shift);
         p += 4;

@@ -7,10 +7,10 @@ ghost use Prim.Native.Nat.{_+_, _-_, _≤_, min};
 ghost use lib.ListN.{length, getD, replicate};
 ghost use Rattle.steps.specs.Place.{spread, bytesFrom};
 
-// What reading a row, or a part of one, answers: the next place in the input, or refusal 9, that the bytes end too early.
+// What reading a row, or a part of one, answers: the next place in the input, or the number of the refusal that the row is at fault by.
 pub enum Taken {
     Done { next: usize },
-    Short,
+    Fault { number: u8 },
 }
 
 // A byte as a number that can be added up.

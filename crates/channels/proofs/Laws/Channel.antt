@@ -1,8 +1,8 @@
--- The laws of `specs/Channel.antt`: first of a span, in any reading, then of the channel.
+-- The laws of `specs/Channel.antt`: of a span, of a rule for counts, and of the channel by any such rule.
 use Prim.Native.Nat.{ℕ, _+_, _-_, _*_, min, _<_, _≤_}
 use native.Mathlib.Omega.{arith}
 use mathlib.Core.List.{List}
-use mathlib.Core.Path.{_≡_, ap, _∙_}
+use mathlib.Core.Path.{_≡_, refl, ap, _∙_}
 use borrow.Author.Tests.{lt-ltb, le-ltb, ltb-true, ltb-false}
 use lib.Dec.{ltb}
 use lib.ListN.{length, getD, replicate}
@@ -11,8 +11,8 @@ use Rattle.steps.specs.Place.{bytesFrom, spread}
 use Rattle.steps.proofs.Laws.Loop.{Runs, runs-start, runs-more}
 use Rattle.steps.proofs.Laws.Turns.{by-test, Falls, never-out}
 use Rattle.steps.specs.declared.Taken.{Taken}
-use Rattle.steps.specs.declared.Taken.the-variants.{Done, Short}
-use Rattle.channels.specs.Channel.{Chan, chan, channelOf, channelOut, channelTurn, isRun, spanAt, spanBytes, spanLength, spanOf, spanTaken}
+use Rattle.steps.specs.declared.Taken.the-variants.{Done, Fault}
+use Rattle.channels.specs.Channel.{Chan, chan, Count, span, fault, CountRule, crateCount, counted, channelOf, channelOut, channelTurn, isRun, spanBytes, spanLength, spanOf, spanTaken}
 
 -- ---- A span
 
@@ -43,65 +43,104 @@ pub span-onward : (src : List ℕ) (channel c n : ℕ) (x : Chan) → x .at < le
 unfolding spanOf
 span-onward src channel c n x h = omega arith
 
+-- ---- What a rule for counts may promise
+
+-- no span passes the row's end
+abbrev pub StaysInside : CountRule → Type 0
+StaysInside rule = (src : List ℕ) (at done width n : ℕ) → done < width → rule src at done width ≡ span n → done + n ≤ width
+
+-- a count that fits into the row, with all its bytes there, is taken whole
+abbrev pub TakesWhole : CountRule → Type 0
+TakesWhole rule =
+    (src : List ℕ) (at done width : ℕ) → done + spanLength (getD src at 0) ≤ width → at + 1 + spanTaken (getD src at 0) (spanLength (getD src at 0)) ≤ length src
+    → rule src at done width ≡ span (spanLength (getD src at 0))
+
+pub crate-inside : StaysInside crateCount
+unfolding crateCount
+crate-inside src at done width n h e =
+    let f : min (spanLength (getD src at 0)) (width - done) ≡ n = cc in
+    omega arith
+
+pub crate-whole : TakesWhole crateCount
+unfolding crateCount
+crate-whole src at done width h k =
+    let f : min (spanLength (getD src at 0)) (width - done) ≡ spanLength (getD src at 0) = omega arith in
+    ap span f
+
+-- what the code finds of a count
+pub crate-count : (src : List ℕ) (p done width c m n : ℕ) → c ≡ getD src p 0 → m ≡ spanLength c → n ≡ min m (width - done) → crateCount src p done width ≡ span n
+unfolding crateCount
+crate-count src p done width c m n ec em en = rw (en, em, ec)
+
 -- ---- A turn
 
-pub at-onward : (src : List ℕ) (channel width : ℕ) (x : Chan) → x .at < length src
-    → (x .at < spanAt src channel width x .at) × (spanAt src channel width x .at ≤ length src)
-unfolding spanAt
-at-onward src channel width x h = span-onward src channel _ _ x h
-
 -- case by case
-pub channel-cases : (src : List ℕ) (channel width : ℕ) (x : Chan) (L : Turn Chan (Taken × List ℕ) → Type 0)
-    → (x .done < width → x .at < length src → L (more (spanAt src channel width x)))
-    → (x .done < width → length src ≤ x .at → L (halt (Short, x .store)))
-    → (width ≤ x .done → L (halt (Done (x .at), x .store))) → L (channelTurn src channel width x)
+pub channel-cases : (rule : CountRule) (src : List ℕ) (channel width : ℕ) (x : Chan) (L : Turn Chan (Taken × List ℕ) → Type 0)
+    → ((n : ℕ) → x .done < width → x .at < length src → rule src (x .at) (x .done) width ≡ span n → L (more (spanOf src channel (getD src (x .at) 0) n x)))
+    → ((number : ℕ) → L (halt (Fault number, x .store)))
+    → (width ≤ x .done → L (halt (Done (x .at), x .store))) → L (channelTurn rule src channel width x)
 unfolding channelTurn
-channel-cases src channel width x L span short done =
+channel-cases rule src channel width x L spans faults done =
     by-test L (ltb (x .done) width)
     (λ t. by-test L (ltb (x .at) (length src))
-    (λ u. span (ltb-true (x .done) width t) (ltb-true (x .at) (length src) u))
-    (λ u. short (ltb-true (x .done) width t) (ltb-false (x .at) (length src) u)))
+    (λ u. by-count (ltb-true (x .done) width t) (ltb-true (x .at) (length src) u) (rule src (x .at) (x .done) width) refl)
+    (λ u. faults 9))
     (λ t. done (ltb-false (x .done) width t))
+  where
+    by-count : x .done < width → x .at < length src → (z : Count) → rule src (x .at) (x .done) width ≡ z → L (counted src channel x z)
+    by-count h k (span n) e = spans n h k e
+    by-count h k (fault number) e = faults number
 
-module _ (src : List ℕ) (channel width : ℕ) (x : Chan) where
-  pub turn-done : width ≤ x .done → channelTurn src channel width x ≡ halt (Done (x .at), x .store)
+module _ (rule : CountRule) (src : List ℕ) (channel width : ℕ) (x : Chan) where
+  pub turn-done : width ≤ x .done → channelTurn rule src channel width x ≡ halt (Done (x .at), x .store)
   unfolding channelTurn
   turn-done h = simp (le-ltb (x .done) width h)
 
-  pub turn-short : x .done < width → length src ≤ x .at → channelTurn src channel width x ≡ halt (Short, x .store)
+  pub turn-short : x .done < width → length src ≤ x .at → channelTurn rule src channel width x ≡ halt (Fault 9, x .store)
   unfolding channelTurn
   turn-short h k = simp (lt-ltb (x .done) width h, le-ltb (x .at) (length src) k)
 
-  turn-span : x .done < width → x .at < length src → channelTurn src channel width x ≡ more (spanAt src channel width x)
+  pub turn-span : (n : ℕ) → x .done < width → x .at < length src → rule src (x .at) (x .done) width ≡ span n
+      → channelTurn rule src channel width x ≡ more (spanOf src channel (getD src (x .at) 0) n x)
   unfolding channelTurn
-  turn-span h k = simp (lt-ltb (x .done) width h, lt-ltb (x .at) (length src) k)
+  turn-span n h k e = simp (lt-ltb (x .done) width h, lt-ltb (x .at) (length src) k, e)
 
 -- a turn of the code, over the values that it has in hand
 module _ (src : List ℕ) (channel p done : ℕ) (store : List ℕ) (next done′ : ℕ) (store′ : List ℕ) (c n : ℕ) where
   pub span-less : p < length src → chan next done′ store′ ≡ spanOf src channel c n (chan p done store) → length src - next < length src - p
   span-less h e = omega (arith, ap (λ (x : Chan). x .at) e, span-onward src channel c n (chan p done store) h)
 
-  pub span-again : (width m : ℕ) (a : Taken × List ℕ) → Runs (channelTurn src channel width) channelOut (length src - p) (chan p done store) a
+  pub span-again : (rule : CountRule) (width : ℕ) (a : Taken × List ℕ) → Runs (channelTurn rule src channel width) channelOut (length src - p) (chan p done store) a
+      → done < width → p < length src → c ≡ getD src p 0 → rule src p done width ≡ span n
+      → chan next done′ store′ ≡ spanOf src channel c n (chan p done store)
+      → Runs (channelTurn rule src channel width) channelOut (length src - next) (chan next done′ store′) a
+  span-again rule width a r h k ec en e =
+      runs-more r (turn-span rule src channel width (chan p done store) n h k en ∙ rw (e, ec)) (span-less k e)
+
+  pub crate-again : (width m : ℕ) (a : Taken × List ℕ) → Runs (channelTurn crateCount src channel width) channelOut (length src - p) (chan p done store) a
       → done < width → p < length src → c ≡ getD src p 0 → m ≡ spanLength c → n ≡ min m (width - done)
       → chan next done′ store′ ≡ spanOf src channel c n (chan p done store)
-      → Runs (channelTurn src channel width) channelOut (length src - next) (chan next done′ store′) a
-  unfolding spanAt
-  span-again width m a r h k ec em en e =
-      runs-more r (turn-span src channel width (chan p done store) h k ∙ rw (e, en, em, ec)) (span-less k e)
+      → Runs (channelTurn crateCount src channel width) channelOut (length src - next) (chan next done′ store′) a
+  crate-again width m a r h k ec em en e = span-again crateCount width a r h k ec (crate-count src p done width c m n ec em en) e
 
 -- ---- The channel
 
-pub channel-starts : (src : List ℕ) (at : ℕ) (store : List ℕ) (channel width : ℕ)
-    → Runs (channelTurn src channel width) channelOut (length src - at) (chan at 0 store) (channelOf src at store channel width)
+pub channel-starts : (rule : CountRule) (src : List ℕ) (at : ℕ) (store : List ℕ) (channel width : ℕ)
+    → Runs (channelTurn rule src channel width) channelOut (length src - at) (chan at 0 store) (channelOf rule src at store channel width)
 unfolding channelOf
-channel-starts src at store channel width = runs-start _ _ _ _ _ (omega arith)
+channel-starts rule src at store channel width = runs-start _ _ _ _ _ (omega arith)
 
--- the turns never run out, since each that goes on takes a byte: what `channelOut` says is nowhere the answer
-pub channel-never-out : (src : List ℕ) (at : ℕ) (store : List ℕ) (channel width : ℕ) (out : Chan → Taken × List ℕ)
-    → channelOf src at store channel width ≡ run (channelTurn src channel width) out (length src + 1) (chan at 0 store)
+-- each turn that goes on takes a byte
+pub channel-falls : (rule : CountRule) (src : List ℕ) (channel width : ℕ) (x : Chan) → Falls (λ (y : Chan). length src - y .at) x (channelTurn rule src channel width x)
+channel-falls rule src channel width x =
+    channel-cases rule src channel width x (Falls (λ (y : Chan). length src - y .at) x)
+    (λ n h k e. omega (arith, span-onward src channel (getD src (x .at) 0) n x k))
+    (λ number. tt)
+    (λ h. tt)
+
+-- so the turns never run out: what `channelOut` says is nowhere the answer
+pub channel-never-out : (rule : CountRule) (src : List ℕ) (at : ℕ) (store : List ℕ) (channel width : ℕ) (out : Chan → Taken × List ℕ)
+    → channelOf rule src at store channel width ≡ run (channelTurn rule src channel width) out (length src + 1) (chan at 0 store)
 unfolding channelOf
-channel-never-out src at store channel width out =
-    let μ : Chan → ℕ = λ x. length src - x .at in
-    never-out (channelTurn src channel width) channelOut out μ
-    (λ x. channel-cases src channel width x (Falls μ x) (λ h k. omega (arith, at-onward src channel width x k)) (λ h k. tt) (λ h. tt))
-    _ _ (omega arith)
+channel-never-out rule src at store channel width out =
+    never-out (channelTurn rule src channel width) channelOut out (λ x. length src - x .at) (channel-falls rule src channel width) _ _ (omega arith)

@@ -1,4 +1,4 @@
--- `rows::channel::put_span` meets its contract: each `return` is a case of `spanOf`.
+-- `channels::put_span` meets its contract: each `return` is a case of `spanOf`.
 use borrow.Author.Needs.{needs}
 use Rattle.channels.proofs.Laws.Channel.{span-run, span-literals}
 use Rattle.channels.proofs.put_span.Statement.{statement}

@@ -1,17 +1,17 @@
--- `rows::channel::read_channel` meets its contract. The invariant: the definition gives from here what it gives from the start.
+-- `channels::read_channel` meets its contract. The invariant: the definition gives from here what it gives from the start.
 use borrow.Author.Needs.{needs}
 use mathlib.Core.Path.{_≡_}
 use Prim.Native.Nat.{_-_}
 use lib.ListN.{length}
 use Rattle.steps.proofs.Laws.Loop.{Runs, runs-halt}
-use Rattle.channels.specs.Channel.{chan, channelOf, channelTurn, channelOut}
-use Rattle.channels.proofs.Laws.Channel.{channel-starts, turn-done, turn-short, span-less, span-again}
+use Rattle.channels.specs.Channel.{chan, crateCount, channelOf, channelTurn, channelOut}
+use Rattle.channels.proofs.Laws.Channel.{channel-starts, turn-done, turn-short, span-less, crate-again}
 use Rattle.channels.proofs.read_channel.Statement.{statement}
 use Rattle.channels.proofs.read_channel.Tie as tie
 
 abbrev Inv-loop : tie.InvT-loop
 Inv-loop src at store₀ channel width p₀ done₀ store p done =
-    (length store ≡ length store₀) × Runs (channelTurn src channel width) channelOut (length src - p) (chan p done store) (channelOf src at store₀ channel width)
+    (length store ≡ length store₀) × Runs (channelTurn crateCount src channel width) channelOut (length src - p) (chan p done store) (channelOf crateCount src at store₀ channel width)
 
 abbrev μ-loop : tie.MeasureT-loop
 μ-loop src at store₀ channel width p₀ done₀ store p done = length src - p
@@ -47,7 +47,7 @@ loop-less : tie.Need-loop-less Inv-loop μ-loop
 loop-less c = search span-less
 
 loop-again : tie.Need-loop-again Inv-loop μ-loop
-loop-again c = (search needs, search span-again)
+loop-again c = (search needs, search crate-again)
 
 same-length-2 : tie.Need-same-length-2 Inv-loop μ-loop
 same-length-2 c = search needs

@@ -1,17 +1,18 @@
--- `rows::channel::read_channels` meets its contract. The invariant: the definition gives from here what it gives from the start.
+-- `channels::read_channels` meets its contract. The invariant: the definition gives from here what it gives from the start.
 use borrow.Author.Needs.{needs}
 use mathlib.Core.Path.{_≡_}
 use Prim.Native.Nat.{_-_}
 use lib.ListN.{length}
 use Rattle.steps.proofs.Laws.Loop.{Runs}
+use Rattle.channels.specs.Channel.{crateCount}
 use Rattle.channels.specs.Channels.{chans, chansTurn, chansOut, channelsOf}
-use Rattle.channels.proofs.Laws.Channels.{chans-starts, chans-done, chans-short, chans-again}
+use Rattle.channels.proofs.Laws.Channels.{chans-starts, chans-done, chans-fault, chans-again}
 use Rattle.channels.proofs.read_channels.Statement.{statement}
 use Rattle.channels.proofs.read_channels.Tie as tie
 
 abbrev Inv-loop : tie.InvT-loop
 Inv-loop src at store₀ width p₀ channel₀ store p channel =
-    (length store ≡ length store₀) × Runs (chansTurn src width) chansOut (4 - channel) (chans p channel store) (channelsOf src at store₀ width)
+    (length store ≡ length store₀) × Runs (chansTurn crateCount src width) chansOut (4 - channel) (chans p channel store) (channelsOf crateCount src at store₀ width)
 
 abbrev μ-loop : tie.MeasureT-loop
 μ-loop src at store₀ width p₀ channel₀ store p channel = 4 - channel
@@ -25,14 +26,14 @@ read-channel-requires c κs = search needs
 enum-known-t : tie.Need-enum-known-t Inv-loop μ-loop
 enum-known-t c = search needs
 
-enum-told : tie.Need-enum-told Inv-loop μ-loop
-enum-told c = search needs
+enum-known-t-2 : tie.Need-enum-known-t-2 Inv-loop μ-loop
+enum-known-t-2 c = search needs
 
 same-length : tie.Need-same-length Inv-loop μ-loop
 same-length c = search needs
 
 returns : tie.Need-returns Inv-loop μ-loop
-returns c = search chans-short
+returns c = search chans-fault
 
 add-channel : tie.Need-add-channel Inv-loop μ-loop
 add-channel c = search needs
@@ -58,7 +59,7 @@ read-channels-spec =
     loop-holds
     read-channel-requires
     enum-known-t
-    enum-told
+    enum-known-t-2
     same-length
     returns
     add-channel

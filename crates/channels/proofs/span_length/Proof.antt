@@ -1,4 +1,4 @@
--- `rows::channel::span_length` meets its contract: each branch is a case of `spanLength`.
+-- `channels::span_length` meets its contract: each branch is a case of `spanLength`.
 use borrow.Author.Needs.{needs}
 use Rattle.channels.proofs.Laws.Channel.{length-run, length-literals}
 use Rattle.channels.proofs.span_length.Statement.{statement}

@@ -1,4 +1,4 @@
--- The laws of `specs/Flat.antt`: of a pixel, of the flat part.
+-- The laws of `specs/Flat.antt`: of a pixel by the crate reading, and of the flat part by any rule.
 use Prim.Native.Nat.{ℕ, _+_, _-_, _*_, _^_, min, _<_, _≤_}
 use native.Mathlib.Omega.{arith}
 use mathlib.Core.List.{List}
@@ -12,9 +12,10 @@ use Rattle.steps.specs.Place.{bytesFrom, spread}
 use Rattle.steps.proofs.Laws.Loop.{Runs, runs-start, runs-more, runs-halt}
 use Rattle.steps.proofs.Laws.Turns.{and-left, by-test, Falls, never-out}
 use Rattle.steps.specs.declared.Taken.{Taken}
-use Rattle.steps.specs.declared.Taken.the-variants.{Done, Short}
+use Rattle.steps.specs.declared.Taken.the-variants.{Done, Fault}
 use Rattle.flat.specs.Repeat.{repeatOf}
-use Rattle.flat.specs.Flat.{Flat, flat, flatOf, flatOut, flatTurn, fourTo, goesOn, isRepeat, pixelOf, repeated}
+use Rattle.flat.specs.Flat.{Flat, FlatRule, flat, crateFlat, flatOf, flatOut, flatTurn, fourTo, goesOn, isRepeat, ordinary, repeated, stored}
+use Rattle.flat.specs.Inner.{pixelOf}
 
 -- ---- A pixel
 
@@ -53,13 +54,14 @@ module _ (src : List ℕ) (start p place wanted shift : ℕ) (store store′ : L
 
 -- ---- The flat part
 
-pub flat-starts : (src : List ℕ) (at : ℕ) (store : List ℕ) (start wanted : ℕ)
-    → Runs (flatTurn src start) flatOut (length src - at) (flat at start wanted 0 store) (flatOf src at store start wanted)
+pub flat-starts : (rule : FlatRule) (src : List ℕ) (at : ℕ) (store : List ℕ) (start wanted : ℕ)
+    → Runs (flatTurn rule src start) flatOut (length src - at) (flat at start wanted 0 store) (flatOf rule src at store start wanted)
 unfolding flatOf
-flat-starts src at store start wanted = runs-start _ _ _ _ _ (omega arith)
+flat-starts rule src at store start wanted = runs-start _ _ _ _ _ (omega arith)
 
 -- the loop, over the values that the code has in hand; n is how many bytes the input has left
-module _ (src : List ℕ) (start p place wanted shift : ℕ) (store : List ℕ) (a : Taken × List ℕ) (r : Runs (flatTurn src start) flatOut (length src - p) (flat p place wanted shift store) a) where
+module _ (rule : FlatRule) (src : List ℕ) (start p place wanted shift : ℕ) (store : List ℕ) (a : Taken × List ℕ)
+    (r : Runs (flatTurn rule src start) flatOut (length src - p) (flat p place wanted shift store) a) where
   pub flat-done : wanted ≤ 0 → (Done p, store) ≡ a
   unfolding flatTurn goesOn
   flat-done h = runs-halt r (simp (le-ltb 0 wanted h))
@@ -69,42 +71,66 @@ module _ (src : List ℕ) (start p place wanted shift : ℕ) (store : List ℕ) 
     unfolding flatTurn goesOn
     flat-ends k = runs-halt r (simp (lt-ltb 0 wanted h, lt-leb shift 16 k))
 
-    module _ (k : shift ≤ 16) (n : ℕ) (en : n ≡ length src - p) where
-      pub flat-short : (store′ : List ℕ) → n < 4 → store′ ≡ spread 1 store place (bytesFrom src p n) → (Short, store′) ≡ a
-      unfolding flatTurn goesOn fourTo
-      flat-short store′ l es =
-          let l′ : length src < p + 4 = omega arith in
-          let m : min 4 (length src - p) ≡ n = omega arith in
-          rw es (runs-halt r (simp (lt-ltb 0 wanted h, le-leb shift 16 k, lt-ltb (length src) (p + 4) l′, m)))
-
-      pub flat-again : (x : Flat) → 4 ≤ n → x ≡ pixelOf src start (flat p place wanted shift (fourTo src p store place))
-          → Runs (flatTurn src start) flatOut (length src - (p + 4)) x a
+    module _ (k : shift ≤ 16) where
+      pub flat-missing : length src < p + 4 → (Fault 9, rule .missing src (flat p place wanted shift store)) ≡ a
       unfolding flatTurn goesOn
-      flat-again x l ex =
-          let l′ : p + 4 ≤ length src = omega arith in
-          rw ex (runs-more r (simp (lt-ltb 0 wanted h, le-leb shift 16 k, le-ltb (length src) (p + 4) l′)) (omega arith))
+      flat-missing l = runs-halt r (simp (lt-ltb 0 wanted h, le-leb shift 16 k, lt-ltb (length src) (p + 4) l))
+
+      pub flat-ordinary : (x : Flat) → p + 4 ≤ length src → isRepeat src p ≡ false → x ≡ ordinary (stored src (flat p place wanted shift store))
+          → Runs (flatTurn rule src start) flatOut (length src - (p + 4)) x a
+      unfolding flatTurn goesOn
+      flat-ordinary x l e ex = rw ex (runs-more r (simp (lt-ltb 0 wanted h, le-leb shift 16 k, le-ltb (length src) (p + 4) l, e)) (omega arith))
+
+-- the same by the crate reading
+module _ (src : List ℕ) (start p place wanted shift : ℕ) (store : List ℕ) (a : Taken × List ℕ)
+    (r : Runs (flatTurn crateFlat src start) flatOut (length src - p) (flat p place wanted shift store) a) (h : 0 < wanted) (k : shift ≤ 16) (n : ℕ) (en : n ≡ length src - p) where
+  pub flat-short : (store′ : List ℕ) → n < 4 → store′ ≡ spread 1 store place (bytesFrom src p n) → (Fault 9, store′) ≡ a
+  unfolding crateFlat fourTo
+  flat-short store′ l es =
+      let m : min 4 (length src - p) ≡ n = omega arith in
+      rw (es, ← m) (flat-missing crateFlat src start p place wanted shift store a r h k (omega arith))
+
+  pub flat-again : (x : Flat) → 4 ≤ n → x ≡ pixelOf src start (flat p place wanted shift (fourTo src p store place))
+      → Runs (flatTurn crateFlat src start) flatOut (length src - (p + 4)) x a
+  unfolding flatTurn goesOn crateFlat pixelOf
+  flat-again x l ex =
+      let l′ : p + 4 ≤ length src = omega arith in
+      rw ex
+      (by-test (λ (y : Flat). Runs (flatTurn crateFlat src start) flatOut (length src - (p + 4)) y a) (isRepeat src p)
+      (λ t. runs-more r (simp (lt-ltb 0 wanted h, le-leb shift 16 k, le-ltb (length src) (p + 4) l′, t)) (omega arith))
+      (λ t. runs-more r (simp (lt-ltb 0 wanted h, le-leb shift 16 k, le-ltb (length src) (p + 4) l′, t)) (omega arith)))
 
 -- a turn, case by case
-pub flat-cases : (src : List ℕ) (start : ℕ) (x : Flat) (L : Turn Flat (Taken × List ℕ) → Type 0)
-    → (0 < x .wanted → x .at + 4 ≤ length src → L (more (pixelOf src start (flat (x .at) (x .place) (x .wanted) (x .shift) (fourTo src (x .at) (x .store) (x .place))))))
-    → (0 < x .wanted → L (halt (Short, fourTo src (x .at) (x .store) (x .place))))
-    → L (halt (Done (x .at), x .store)) → L (flatTurn src start x)
+pub flat-cases : (rule : FlatRule) (src : List ℕ) (start : ℕ) (x : Flat) (L : Turn Flat (Taken × List ℕ) → Type 0)
+    → (0 < x .wanted → x .at + 4 ≤ length src → isRepeat src (x .at) ≡ true → L (rule .ones src start x))
+    → (0 < x .wanted → x .at + 4 ≤ length src → isRepeat src (x .at) ≡ false → L (more (ordinary (stored src x))))
+    → (0 < x .wanted → L (halt (Fault 9, rule .missing src x)))
+    → L (halt (Done (x .at), x .store)) → L (flatTurn rule src start x)
 unfolding flatTurn goesOn
-flat-cases src start x L pixel short done =
+flat-cases rule src start x L ones pixel missing done =
     by-test L (ltb 0 (x .wanted) && leb (x .shift) 16)
     (λ t. let h = ltb-true 0 (x .wanted) (and-left (ltb 0 (x .wanted)) _ t) in
-    by-test L (ltb (length src) (x .at + 4)) (λ u. short h) (λ u. pixel h (ltb-false (length src) (x .at + 4) u)))
+    by-test L (ltb (length src) (x .at + 4)) (λ u. missing h)
+    (λ u. let l = ltb-false (length src) (x .at + 4) u in
+    by-test L (isRepeat src (x .at)) (ones h l) (pixel h l)))
     (λ t. done)
 
--- a pixel takes four bytes
-pub pixel-at : (src : List ℕ) (start : ℕ) (x : Flat) → pixelOf src start x .at ≡ x .at + 4
-unfolding pixelOf repeated
-pixel-at src start x = by-test (λ (y : Flat). y .at ≡ x .at + 4) (isRepeat src (x .at)) (λ t. refl) (λ t. refl)
+-- ---- What a rule may promise: where 1,1,1,n goes on, bytes were taken
 
--- the turns never run out, since each that goes on takes four bytes
-pub flat-never-out : (src : List ℕ) (at : ℕ) (store : List ℕ) (start wanted : ℕ) (out : Flat → Taken × List ℕ)
-    → flatOf src at store start wanted ≡ run (flatTurn src start) out (length src + 1) (flat at start wanted 0 store)
+abbrev pub OnesOnward : FlatRule → Type 0
+OnesOnward rule = (src : List ℕ) (start : ℕ) (x : Flat) → x .at + 4 ≤ length src → Falls (λ (y : Flat). length src - y .at) x (rule .ones src start x)
+
+pub crate-onward : OnesOnward crateFlat
+unfolding crateFlat repeated
+crate-onward src start x h = omega arith
+
+-- each turn that goes on takes four bytes
+pub flat-falls : (rule : FlatRule) → OnesOnward rule → (src : List ℕ) (start : ℕ) (x : Flat) → Falls (λ (y : Flat). length src - y .at) x (flatTurn rule src start x)
+flat-falls rule on src start x =
+    flat-cases rule src start x (Falls (λ (y : Flat). length src - y .at) x) (λ h l e. on src start x l) (λ h l e. omega arith) (λ h. tt) tt
+
+-- so the turns never run out
+pub flat-never-out : (rule : FlatRule) → OnesOnward rule → (src : List ℕ) (at : ℕ) (store : List ℕ) (start wanted : ℕ) (out : Flat → Taken × List ℕ)
+    → flatOf rule src at store start wanted ≡ run (flatTurn rule src start) out (length src + 1) (flat at start wanted 0 store)
 unfolding flatOf
-flat-never-out src at store start wanted out =
-    let μ : Flat → ℕ = λ x. length src - x .at in
-    never-out (flatTurn src start) flatOut out μ (λ x. flat-cases src start x (Falls μ x) (λ h k. omega (arith, pixel-at src start (flat (x .at) (x .place) (x .wanted) (x .shift) (fourTo src (x .at) (x .store) (x .place))))) (λ h. tt) tt) _ _ (omega arith)
+flat-never-out rule on src at store start wanted out = never-out (flatTurn rule src start) flatOut out (λ x. length src - x .at) (flat-falls rule on src start) _ _ (omega arith)

@@ -1,4 +1,4 @@
--- `rows::flat::is_repeat` meets its contract: each `return` is a case of `isRepeat`.
+-- `flat::is_repeat` meets its contract: each `return` is a case of `isRepeat`.
 use borrow.Author.Needs.{needs}
 use Rattle.flat.proofs.Laws.Flat.{repeat-not-0, repeat-not-1, repeat-by-2}
 use Rattle.flat.proofs.is_repeat.Statement.{statement}

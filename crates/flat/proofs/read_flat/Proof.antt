@@ -1,17 +1,17 @@
--- `rows::flat::read_flat` meets its contract. The invariant: the definition gives from here what it gives from the start.
+-- `flat::read_flat` meets its contract. The invariant: the definition gives from here what it gives from the start.
 use borrow.Author.Needs.{needs}
 use mathlib.Core.Path.{_≡_}
 use Prim.Native.Nat.{_+_, _*_, _-_, _≤_}
 use lib.ListN.{length}
 use Rattle.steps.proofs.Laws.Loop.{Runs}
-use Rattle.flat.specs.Flat.{flat, flatTurn, flatOut, flatOf}
+use Rattle.flat.specs.Flat.{flat, crateFlat, flatTurn, flatOut, flatOf}
 use Rattle.flat.proofs.Laws.Flat.{flat-starts, flat-done, flat-ends, flat-short, flat-again}
 use Rattle.flat.proofs.read_flat.Statement.{statement}
 use Rattle.flat.proofs.read_flat.Tie as tie
 
 abbrev Inv-loop : tie.InvT-loop
 Inv-loop src at store₀ start wanted p₀ place₀ left₀ shift₀ store p place left shift =
-    (place + 4 * left ≤ length store) × (length store ≡ length store₀) × Runs (flatTurn src start) flatOut (length src - p) (flat p place left shift store) (flatOf src at store₀ start wanted)
+    (place + 4 * left ≤ length store) × (length store ≡ length store₀) × Runs (flatTurn crateFlat src start) flatOut (length src - p) (flat p place left shift store) (flatOf crateFlat src at store₀ start wanted)
 
 abbrev μ-loop : tie.MeasureT-loop
 μ-loop src at store₀ start wanted p₀ place₀ left₀ shift₀ store p place left shift = length src - p

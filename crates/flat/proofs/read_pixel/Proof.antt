@@ -1,4 +1,4 @@
--- `rows::flat::read_pixel` meets its contract: each `return` is a case of `pixelOf`.
+-- `flat::read_pixel` meets its contract: each `return` is a case of `pixelOf`.
 use borrow.Author.Needs.{needs}
 use Rattle.flat.proofs.Laws.Flat.{pixel-ordinary, pixel-repeat}
 use Rattle.flat.proofs.read_pixel.Statement.{statement}

@@ -1,4 +1,4 @@
--- `rows::flat::read_repeat` meets its contract: the repeat, and a shift that is 8 more.
+-- `flat::read_repeat` meets its contract: the repeat, and a shift that is 8 more.
 use borrow.Author.Needs.{needs}
 use Rattle.flat.proofs.Laws.Flat.{repeated-is}
 use Rattle.flat.proofs.read_repeat.Statement.{statement}

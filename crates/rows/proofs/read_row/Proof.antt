@@ -1,4 +1,4 @@
--- `rows::read_row` meets its contract: each `return` is a case of `rowOf`.
+-- `rows::read_row` meets its contract: each `return` is a case of `rowBy`.
 use borrow.Author.Needs.{needs}
 use Rattle.rows.proofs.Laws.Row.{first-room, one-less, rest-room, row-by-width, row-missing, row-flat, row-pixel, row-channels}
 use Rattle.rows.proofs.read_row.Statement.{statement}
@@ -16,8 +16,11 @@ same-length c = search needs
 returns : tie.Need-returns
 returns c = search row-by-width
 
-read-kind-requires : tie.Need-read-kind-requires
-read-kind-requires c κs = search first-room
+kind-at-requires : tie.Need-kind-at-requires
+kind-at-requires c κs = search needs
+
+put-start-requires : tie.Need-put-start-requires
+put-start-requires c κs = (search first-room, search needs)
 
 enum-told : tie.Need-enum-told
 enum-told c = search needs
@@ -75,7 +78,8 @@ read-row-spec =
     read-flat-requires
     same-length
     returns
-    read-kind-requires
+    kind-at-requires
+    put-start-requires
     enum-told
     enum-told-2
     read-flat-requires-2
