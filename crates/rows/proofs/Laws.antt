@@ -1,2 +1,4 @@
--- The laws of the definitions in `specs/`.
+-- The laws of the definitions in `specs/`; `Kept` holds what the others share, `Bounds` what a caller uses.
+pub mod Kept
 pub mod Row
+pub mod Bounds

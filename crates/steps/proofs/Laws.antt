@@ -2,6 +2,7 @@
 pub mod Loop
 pub mod Place
 pub mod Turns
+pub mod Machines
 pub mod Answer
 pub mod Numbered
 pub mod Amount

@@ -77,19 +77,21 @@ crate-count src p done width c m n ec em en = rw (en, em, ec)
 -- case by case
 pub channel-cases : (rule : CountRule) (src : List ℕ) (channel width : ℕ) (x : Chan) (L : Turn Chan (Taken × List ℕ) → Type 0)
     → ((n : ℕ) → x .done < width → x .at < length src → rule src (x .at) (x .done) width ≡ span n → L (more (spanOf src channel (getD src (x .at) 0) n x)))
-    → ((number : ℕ) → L (halt (Fault number, x .store)))
+    → ((number : ℕ) → x .done < width → x .at < length src → rule src (x .at) (x .done) width ≡ fault number → L (halt (Fault number, x .store)))
+    → (x .done < width → length src ≤ x .at → L (halt (Fault 9, x .store)))
     → (width ≤ x .done → L (halt (Done (x .at), x .store))) → L (channelTurn rule src channel width x)
 unfolding channelTurn
-channel-cases rule src channel width x L spans faults done =
+channel-cases rule src channel width x L spans faults missing done =
     by-test L (ltb (x .done) width)
-    (λ t. by-test L (ltb (x .at) (length src))
-    (λ u. by-count (ltb-true (x .done) width t) (ltb-true (x .at) (length src) u) (rule src (x .at) (x .done) width) refl)
-    (λ u. faults 9))
+    (λ t. let h = ltb-true (x .done) width t in
+    by-test L (ltb (x .at) (length src))
+    (λ u. by-count h (ltb-true (x .at) (length src) u) (rule src (x .at) (x .done) width) refl)
+    (λ u. missing h (ltb-false (x .at) (length src) u)))
     (λ t. done (ltb-false (x .done) width t))
   where
     by-count : x .done < width → x .at < length src → (z : Count) → rule src (x .at) (x .done) width ≡ z → L (counted src channel x z)
     by-count h k (span n) e = spans n h k e
-    by-count h k (fault number) e = faults number
+    by-count h k (fault number) e = faults number h k e
 
 module _ (rule : CountRule) (src : List ℕ) (channel width : ℕ) (x : Chan) where
   pub turn-done : width ≤ x .done → channelTurn rule src channel width x ≡ halt (Done (x .at), x .store)
@@ -104,6 +106,10 @@ module _ (rule : CountRule) (src : List ℕ) (channel width : ℕ) (x : Chan) wh
       → channelTurn rule src channel width x ≡ more (spanOf src channel (getD src (x .at) 0) n x)
   unfolding channelTurn
   turn-span n h k e = simp (lt-ltb (x .done) width h, lt-ltb (x .at) (length src) k, e)
+
+  pub turn-fault : (number : ℕ) → x .done < width → x .at < length src → rule src (x .at) (x .done) width ≡ fault number → channelTurn rule src channel width x ≡ halt (Fault number, x .store)
+  unfolding channelTurn
+  turn-fault number h k e = simp (lt-ltb (x .done) width h, lt-ltb (x .at) (length src) k, e)
 
 -- a turn of the code, over the values that it has in hand
 module _ (src : List ℕ) (channel p done : ℕ) (store : List ℕ) (next done′ : ℕ) (store′ : List ℕ) (c n : ℕ) where
@@ -135,7 +141,8 @@ pub channel-falls : (rule : CountRule) (src : List ℕ) (channel width : ℕ) (x
 channel-falls rule src channel width x =
     channel-cases rule src channel width x (Falls (λ (y : Chan). length src - y .at) x)
     (λ n h k e. omega (arith, span-onward src channel (getD src (x .at) 0) n x k))
-    (λ number. tt)
+    (λ number h k e. tt)
+    (λ h k. tt)
     (λ h. tt)
 
 -- so the turns never run out: what `channelOut` says is nowhere the answer

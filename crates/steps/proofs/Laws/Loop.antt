@@ -34,16 +34,17 @@ module _ {S A : Type 0} {turn : S → Turn S A} {out : S → A} where
   pub runs-halt : {m : ℕ} {s : S} {a b : A} → Runs turn out m s a → turn s ≡ halt b → b ≡ a
   runs-halt {m} {s} {a} {b} r e = stop turn out s a b (r .turns) m (r .enough) e (r .gives)
 
--- where a measure falls at each turn that goes on, `out` is never asked: a run with more turns than the measure does not depend on it
+-- where a measure falls at each turn that goes on, `out` is never asked: runs with more turns than the measure depend neither on it nor on their number
 module _ {S A : Type 0} (turn : S → Turn S A) (out out′ : S → A) (μ : S → ℕ) (falls : (s t : S) → turn s ≡ more t → μ t < μ s) where
-  by-turn : (k : ℕ) (s : S) → μ s < suc k → ((t : S) → μ t < k → run turn out k t ≡ run turn out′ k t) → (z : Turn S A) → turn s ≡ z
-      → lead (run turn out k) z ≡ lead (run turn out′ k) z
-  by-turn k s h rec (more t) e =
+  by-turn : (k k′ : ℕ) (s : S) → μ s < suc k → μ s < suc k′ → ((t : S) → μ t < k → μ t < k′ → run turn out k t ≡ run turn out′ k′ t) → (z : Turn S A) → turn s ≡ z
+      → lead (run turn out k) z ≡ lead (run turn out′ k′) z
+  by-turn k k′ s h h′ rec (more t) e =
       let l = falls s t e in
-      rec t (omega arith)
-  by-turn k s h rec (halt a) e = refl
+      rec t (omega arith) (omega arith)
+  by-turn k k′ s h h′ rec (halt a) e = refl
 
-  pub out-free : (k : ℕ) (s : S) → μ s < k → run turn out k s ≡ run turn out′ k s
+  pub out-free : (k k′ : ℕ) (s : S) → μ s < k → μ s < k′ → run turn out k s ≡ run turn out′ k′ s
   unfolding run
-  out-free zero s h = absurd (not-suc-le-zero h)
-  out-free (suc k) s h = by-turn k s h (λ t l. out-free k t l) (turn s) refl
+  out-free zero k′ s h h′ = absurd (not-suc-le-zero h)
+  out-free (suc k) zero s h h′ = absurd (not-suc-le-zero h′)
+  out-free (suc k) (suc k′) s h h′ = by-turn k k′ s h h′ (λ t l l′. out-free k k′ t l l′) (turn s) refl

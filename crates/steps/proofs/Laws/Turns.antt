@@ -41,6 +41,9 @@ module _ {S A : Type 0} (turn : S → Turn S A) (out : S → A) where
     run-keeps zero s p = end s p
     run-keeps (suc k) s p = after k (turn s) (λ t q. run-keeps k t q) (step s p)
 
-  -- where a measure falls, `out` is never asked
+  -- where a measure falls, `out` is never asked, and turns above the measure are enough
+  pub enough-turns : (out′ : S → A) (μ : S → ℕ) → ((s : S) → Falls μ s (turn s)) → (k k′ : ℕ) (s : S) → μ s < k → μ s < k′ → run turn out k s ≡ run turn out′ k′ s
+  enough-turns out′ μ falls = out-free turn out out′ μ (λ s t e. subst (Falls μ s) e (falls s))
+
   pub never-out : (out′ : S → A) (μ : S → ℕ) → ((s : S) → Falls μ s (turn s)) → (k : ℕ) (s : S) → μ s < k → run turn out k s ≡ run turn out′ k s
-  never-out out′ μ falls = out-free turn out out′ μ (λ s t e. subst (Falls μ s) e (falls s))
+  never-out out′ μ falls k s h = enough-turns out′ μ falls k k s h h
