@@ -1,4 +1,4 @@
-"""The replay program's fixed list: cases with answers by document 01, then cases that the unchanged Rust answers.
+"""The replay program's fixed list: cases with answers by the rules, then cases that the unchanged Rust answers.
 
 Use: list.py ORACLE      (from the repository's top; compare/list builds the oracle first)
 
@@ -38,7 +38,7 @@ def file(w, h, rows=()):
     return f"#?RGBE\n\n-Y {h} +X {w}\n".encode() + bytes(rows)
 
 
-# ---- Answers by document 01
+# ---- Answers by the rules
 
 def sky_lines(path):
     """The sample skies, each with its answer, as compare/skies has them."""
@@ -384,7 +384,7 @@ def main():
         f.write("\n".join(line for line, _ in pairs).encode())
     with open("crates/replay/stdout", "wb") as f:
         f.write("".join(answer + "\n" for _, answer in pairs).encode())
-    print(f"list: {by_document + 1} lines by document 01, {len(lines)} by the Rust")
+    print(f"list: {by_document + 1} lines by the rules, {len(lines)} by the Rust")
 
 
 main()

@@ -12,7 +12,7 @@ def numbers(data):
 
 
 def four_bytes(samples):
-    """Three samples to four bytes, as document 01 has it; Python's numbers are wide enough to be exact."""
+    """Three samples to four bytes, as RULES 5.1 has it; Python's numbers are wide enough to be exact."""
     largest = max(samples)
     if not largest > BLACK:
         return bytes(4)

@@ -1,4 +1,4 @@
-"""The crate's way of reading, written from document 01: the header, the rows, the samples."""
+"""The crate's way of reading, written from RULES 3 and 4: the header, the rows, the samples."""
 
 import numpy
 

@@ -10,7 +10,7 @@ pub enum Judge {
     Crate,
     /// The crate, asked with the samples whose four-byte pixels the line has.
     CrateSamples { width: usize, height: usize, room: Option<usize>, samples: Vec<f32> },
-    /// Document 01, worked out over whole numbers; the crate differs there.
+    /// RULES 5.1, worked out over whole numbers; the crate differs there.
     Document(String),
 }
 

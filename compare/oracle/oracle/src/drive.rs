@@ -86,7 +86,7 @@ fn expected(case: Case) -> Waiting {
     Waiting { kind: case.kind, line: case.line, expected, at_end }
 }
 
-/// The sample skies: a line, then its answer by document 01. The crate is held to it where it can be asked.
+/// The sample skies: a line, then its answer by RULES 11. The crate is held to it where it can be asked.
 fn sample_skies(path: &str, feed: &mut dyn FnMut(Waiting) -> bool) -> bool {
     let text = std::fs::read_to_string(path).unwrap_or_else(|error| panic_with(&format!("{path}: {error}")));
     let lines: Vec<&str> = text.lines().filter(|line| !line.is_empty() && !line.starts_with('#')).collect();

@@ -1,4 +1,4 @@
-//! The pixel conversion of the documents (document 01, 'Rows written'), over whole numbers.
+//! The pixel conversion of the documents (RULES 5.1), over whole numbers.
 
 /// The f32 nearest to 1e-32.
 const BLACK: u32 = 0x0a4f_b11f;

@@ -173,7 +173,7 @@ fn samples_that_agree(seed: u64, count: usize, sink: Sink) {
     }
 }
 
-/// Single pixels of every sort, held to document 01 alone.
+/// Single pixels of every sort, held to RULES 5.1 alone.
 fn pixels_by_document(seed: u64, count: usize, sink: Sink) {
     let mut random = Random::new(seed, "pixels");
     let special = [
@@ -205,13 +205,13 @@ fn pixels_by_document(seed: u64, count: usize, sink: Sink) {
         let mut line = "write 1 1 70 ".to_string();
         push_samples(&mut line, samples.iter().map(|s| s.to_bits()));
         let judge = Judge::Document(one_pixel(&samples));
-        if !sink(Case { kind: "one pixel, judged by document 01", line, judge }) {
+        if !sink(Case { kind: "one pixel, judged by RULES 5.1", line, judge }) {
             return;
         }
     }
 }
 
-/// The answer to `write 1 1 70` by document 01.
+/// The answer to `write 1 1 70` by RULES 5.1.
 fn one_pixel(samples: &[f32; 3]) -> String {
     let mut bytes = lent_bytes(70);
     let mut line = match by_documents(samples) {
