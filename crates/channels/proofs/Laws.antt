@@ -1,4 +1,5 @@
--- The laws of the definitions in `specs/`, a file for each of its files, and of bytes stored to every fourth place.
+-- The laws of the definitions in `specs/`, a file for each of its files; of bytes stored to every fourth place; and worked examples.
 pub mod Channel
 pub mod Channels
 pub mod Fourth
+pub mod Examples

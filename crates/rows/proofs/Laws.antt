@@ -1,4 +1,6 @@
--- The laws of the definitions in `specs/`; `Kept` holds what the others share, `Bounds` what a caller uses.
+-- The laws of the definitions in `specs/`; `Kept` holds what the others share, `Bounds`, `Behind` and `Before` what a caller uses.
 pub mod Kept
 pub mod Row
 pub mod Bounds
+pub mod Behind
+pub mod Before

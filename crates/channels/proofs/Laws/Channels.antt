@@ -3,7 +3,7 @@ use Prim.Native.Nat.{ℕ, _+_, _-_, _<_, _≤_}
 use native.Mathlib.Omega.{arith}
 use mathlib.Core.List.{List}
 use mathlib.Core.Path.{_≡_, refl, sym, ap, _∙_}
-use borrow.Author.Tests.{lt-ltb, le-ltb, ltb-true}
+use borrow.Author.Tests.{lt-ltb, le-ltb, ltb-true, ltb-false}
 use lib.Dec.{ltb}
 use Rattle.steps.specs.Loop.{Turn, more, halt, run}
 use Rattle.steps.specs.declared.Taken.{Taken}
@@ -37,11 +37,11 @@ module _ (rule : CountRule) (src : List ℕ) (width p channel : ℕ) (store : Li
 pub chans-cases : (rule : CountRule) (src : List ℕ) (width : ℕ) (x : Chans) (L : Turn Chans (Taken × List ℕ) → Type 0)
     → ((next : ℕ) (s : List ℕ) → x .channel < 4 → (Done next, s) ≡ channelOf rule src (x .at) (x .store) (x .channel) width → L (more (chans next (x .channel + 1) s)))
     → ((number : ℕ) (s : List ℕ) → x .channel < 4 → (Fault number, s) ≡ channelOf rule src (x .at) (x .store) (x .channel) width → L (halt (Fault number, s)))
-    → L (halt (Done (x .at), x .store)) → L (chansTurn rule src width x)
+    → (4 ≤ x .channel → L (halt (Done (x .at), x .store))) → L (chansTurn rule src width x)
 unfolding chansTurn
 chans-cases rule src width x L next faults done =
     let read = channelOf rule src (x .at) (x .store) (x .channel) width in
-    by-test L (ltb (x .channel) 4) (λ t. after (ltb-true (x .channel) 4 t) (read .0) (read .1) refl) (λ t. done)
+    by-test L (ltb (x .channel) 4) (λ t. after (ltb-true (x .channel) 4 t) (read .0) (read .1) refl) (λ t. done (ltb-false (x .channel) 4 t))
   where
     after : x .channel < 4 → (t : Taken) (s : List ℕ) → (t, s) ≡ channelOf rule src (x .at) (x .store) (x .channel) width → L (afterChannel (x .channel) t s)
     after h (Done n) s e = next n s h e
@@ -53,4 +53,4 @@ pub channels-never-out : (rule : CountRule) (src : List ℕ) (at : ℕ) (store :
 unfolding channelsOf
 channels-never-out rule src at store width out =
     let μ : Chans → ℕ = λ x. 4 - x .channel in
-    never-out (chansTurn rule src width) chansOut out μ (λ x. chans-cases rule src width x (Falls μ x) (λ next s h e. omega arith) (λ number s h e. tt) tt) _ _ (omega arith)
+    never-out (chansTurn rule src width) chansOut out μ (λ x. chans-cases rule src width x (Falls μ x) (λ next s h e. omega arith) (λ number s h e. tt) (λ h. tt)) _ _ (omega arith)

@@ -113,7 +113,7 @@ module _ (rule : CountRule) (inside : StaysInside rule) (src : List ℕ) where
           chans-cases rule src width x (Leads P Q)
           (λ next s h e. sound-on (read x (Done next, s) p h e))
           (λ number s h e. read x (Fault number, s) p h e)
-          (sound-done p)
+          (λ h. sound-done p)
 
 -- ---- A flat part, by a rule that keeps to the room that is wanted
 
