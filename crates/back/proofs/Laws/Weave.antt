@@ -1,7 +1,7 @@
 -- Four channels, each stored in every fourth place, are the pixels stored one after another.
 use mathlib.Core.Path.{_≡_, refl, sym, ap, _∙_}
 use mathlib.Core.List.{List, [], _∷_, _++_}
-use Prim.Native.Nat.{ℕ, zero, suc, _+_, _*_, _<_}
+use Prim.Native.Nat.{ℕ, zero, suc, _+_, _*_, _<_, _≤_}
 use native.Mathlib.Omega.{arith}
 use lib.ListN.{getD, set}
 use lib.Seq.{set-comm}
@@ -79,9 +79,26 @@ covered (p ∷ []) x y a b c = refl
 covered (p ∷ q ∷ []) x y a b c = refl
 covered (p ∷ q ∷ r ∷ s) x y a b c = refl
 
-pub mark-covered : (px s : List ℕ) (x y at w : ℕ) → 0 < w → spread 1 (set (set s 1 x) 2 y) 0 (bytesFrom px at (4 * w)) ≡ spread 1 s 0 (bytesFrom px at (4 * w))
+mark-covered : (px s : List ℕ) (x y at w : ℕ) → 0 < w → spread 1 (set (set s 1 x) 2 y) 0 (bytesFrom px at (4 * w)) ≡ spread 1 s 0 (bytesFrom px at (4 * w))
 mark-covered px s x y at zero h = absurd (omega arith)
 mark-covered px s x y at (suc n) h =
     spread-four px (set (set s 1 x) 2 y) 0 at n
     ∙ ap (λ (l : List ℕ). spread 1 (set l 3 (getD px (at + 3) 0)) 4 (bytesFrom px (at + 4) (4 * n))) (covered s x y (getD px at 0) (getD px (at + 1) 0) (getD px (at + 2) 0))
     ∙ sym (spread-four px s 0 at n)
+
+-- and so are the first of them, wherever they come from
+one-covered : (s : List ℕ) (x a b c : ℕ) → set (set (set (set s 1 x) 0 a) 1 b) 2 c ≡ set (set (set s 0 a) 1 b) 2 c
+one-covered [] x a b c = refl
+one-covered (p ∷ []) x a b c = refl
+one-covered (p ∷ q ∷ s) x a b c = refl
+
+pub early-covered : (src px s : List ℕ) (m p at w : ℕ) → m ≤ 2 → 0 < w → spread 1 (spread 1 s 1 (bytesFrom src p m)) 0 (bytesFrom px at (4 * w)) ≡ spread 1 s 0 (bytesFrom px at (4 * w))
+unfolding spread bytesFrom
+early-covered src px s zero p at w l h = refl
+early-covered src px s (suc zero) p at zero l h = absurd (omega arith)
+early-covered src px s (suc zero) p at (suc n) l h =
+    spread-four px (set s 1 (getD src p 0)) 0 at n
+    ∙ ap (λ (t : List ℕ). spread 1 (set t 3 (getD px (at + 3) 0)) 4 (bytesFrom px (at + 4) (4 * n))) (one-covered s (getD src p 0) (getD px at 0) (getD px (at + 1) 0) (getD px (at + 2) 0))
+    ∙ sym (spread-four px s 0 at n)
+early-covered src px s (suc (suc zero)) p at w l h = mark-covered px s (getD src p 0) (getD src (p + 1) 0) at w h
+early-covered src px s (suc (suc (suc m))) p at w l h = absurd (omega arith)

@@ -24,6 +24,15 @@ pub length-literals : (c : ℕ) → c ≤ 128 → c ≡ spanLength c
 unfolding spanLength isRun
 length-literals c h = simp (le-ltb 128 c h)
 
+-- how many bytes a run and literals take
+pub taken-run : (c n : ℕ) → 128 < c → spanTaken c n ≡ 1
+unfolding spanTaken isRun
+taken-run c n h = simp (lt-ltb 128 c h)
+
+pub taken-literals : (c n : ℕ) → c ≤ 128 → spanTaken c n ≡ n
+unfolding spanTaken isRun
+taken-literals c n h = simp (le-ltb 128 c h)
+
 -- what the code does of a run, and of literals
 pub span-run : (src store store′ : List ℕ) (channel p done c n v next : ℕ) → 128 < c → v ≡ getD src (p + 1) 0
     → store′ ≡ spread 4 store (channel + 4 * done) (replicate n v) → next ≡ min (p + 1 + 1) (length src)
@@ -52,8 +61,7 @@ StaysInside rule = (src : List ℕ) (at done width n : ℕ) → done < width →
 -- a count that fits into the row, with all its bytes there, is taken whole
 abbrev pub TakesWhole : CountRule → Type 0
 TakesWhole rule =
-    (src : List ℕ) (at done width : ℕ) → done + spanLength (getD src at 0) ≤ width → at + 1 + spanTaken (getD src at 0) (spanLength (getD src at 0)) ≤ length src
-    → rule src at done width ≡ span (spanLength (getD src at 0))
+    (src : List ℕ) (at done width c n : ℕ) → c ≡ getD src at 0 → n ≡ spanLength c → done + n ≤ width → at + 1 + spanTaken c n ≤ length src → rule src at done width ≡ span n
 
 pub crate-inside : StaysInside crateCount
 unfolding crateCount
@@ -61,16 +69,13 @@ crate-inside src at done width n h e =
     let f : min (spanLength (getD src at 0)) (width - done) ≡ n = cc in
     omega arith
 
-pub crate-whole : TakesWhole crateCount
-unfolding crateCount
-crate-whole src at done width h k =
-    let f : min (spanLength (getD src at 0)) (width - done) ≡ spanLength (getD src at 0) = omega arith in
-    ap span f
-
 -- what the code finds of a count
 pub crate-count : (src : List ℕ) (p done width c m n : ℕ) → c ≡ getD src p 0 → m ≡ spanLength c → n ≡ min m (width - done) → crateCount src p done width ≡ span n
 unfolding crateCount
 crate-count src p done width c m n ec em en = rw (en, em, ec)
+
+pub crate-whole : TakesWhole crateCount
+crate-whole src at done width c n ec en h k = crate-count src at done width c n n ec en (omega arith)
 
 -- ---- A turn
 

@@ -172,6 +172,18 @@ module _ (parts : RowParts) (src : List ℕ) (at : ℕ) (store : List ℕ) (widt
   unfolding rowBy
   by-kind k store′ t ek es = rw (ek, es) (simp (sym eb ∙ t))
 
+-- four bytes at a place that are a mark
+abbrev pub Marked : List ℕ → ℕ → Type 0
+Marked src at = Channels (at + 4) ≡ kindOf src at
+
+pub by-mark : (parts : RowParts) (src : List ℕ) (at : ℕ) (store : List ℕ) (width : ℕ) → false ≡ isFlatWidth width → Marked src at
+    → parts .channels src (at + 4) (parts .start src at store) width ≡ rowBy parts src at store width
+by-mark parts src at store width eb marked = by-kind parts src at store width false eb (Channels (at + 4)) (parts .start src at store) refl marked refl
+
+-- by the crate reading a mark leaves two bytes in the store
+pub marked-start : (src : List ℕ) (at : ℕ) (store : List ℕ) → Marked src at → early src at store ≡ crateStart src at store
+marked-start src at store marked = start-channels src at (Channels (at + 4)) marked store (early src at store) (at + 4) refl refl
+
 -- the same by the crate reading, over the values that the code has in hand
 module _ (src : List ℕ) (at : ℕ) (store : List ℕ) (width : ℕ) (b : Bool) (eb : b ≡ isFlatWidth width) where
   pub row-by-width : (a : Taken × List ℕ) → b ≡ true → a ≡ flatOf crateFlat src at store 0 width → a ≡ crateRow src at store width
