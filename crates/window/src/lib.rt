@@ -23,11 +23,21 @@ fn reaches(more: bool, length: usize, end: usize) -> bool
     false
 }
 
-// What reading a row answers: the next place; refusal 9; or that the row may need more than the part.
+// What reading a row answers: the next place; the number of a refusal; or that the row may need more than the part.
 pub enum RowPart {
     Read { next: usize },
-    Short,
+    Fault { number: u8 },
     Long,
+}
+
+// Whether a row at fault by this number may be whole in the file: bytes are missing in the part, and the file goes on.
+fn may_go_on(more: bool, number: u8) -> bool
+    ensures { λ r. ⌜ r ≡ more && eqb number 9 ⌝ }
+{
+    if more {
+        return number == refusal::BYTES_END;
+    }
+    false
 }
 
 // What a part says of a row that was read so.
@@ -41,11 +51,11 @@ fn row_part(more: bool, length: usize, taken: Taken) -> RowPart
             }
             RowPart::Read { next }
         }
-        Taken::Short => {
-            if more {
+        Taken::Fault { number } => {
+            if may_go_on(more, number) {
                 return RowPart::Long;
             }
-            RowPart::Short
+            RowPart::Fault { number }
         }
     }
 }
