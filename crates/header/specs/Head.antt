@@ -57,9 +57,17 @@ headChecks bytes widest highest =
     let f = fieldsOf bytes in
     check 1 (not (isFirst (firstLine bytes))) ∷ fieldChecks (axesOf (f .first) (f .third)) f widest highest
 
+-- a header of this width and height, and so many bytes taken
+abbrev pub head : ℕ → ℕ → ℕ → Head
+head width height taken = record { width = width; height = height; taken = taken }
+
+-- the same header, with another count of bytes taken
+abbrev pub taking : Head → ℕ → Head
+taking head taken = record { width = head .width; height = head .height; taken = taken }
+
 -- width, height, and the count of bytes taken
 abbrev pub headBy : List ℕ → List ℕ → ℕ → Head
-headBy height width taken = record { width = sizeOf width; height = sizeOf height; taken = taken }
+headBy height width taken = head (sizeOf width) (sizeOf height) taken
 
 unfoldable pub headOf : Fields → Head
 headOf f =

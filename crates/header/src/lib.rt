@@ -15,13 +15,26 @@ ghost use Prim.Native.Nat.{_≤_};
 ghost use lib.ListN.{length};
 ghost use Rattle.steps.specs.Answer.{refuse};
 ghost use Rattle.words.specs.Fields.{fieldsAt};
-ghost use Rattle.header.specs.Head.{sizesAnswer, fieldsAnswer, paperOf, HeaderPromise};
+ghost use Rattle.header.specs.Head.{taking, sizesAnswer, fieldsAnswer, paperOf, HeaderPromise};
 
 // What a header says, and how many bytes it takes.
 pub struct Head {
     pub width: usize,
     pub height: usize,
     pub taken: usize,
+}
+
+impl Head {
+    // The same header, with another count of bytes taken.
+    pub fn taking(self, taken: usize) -> Head
+        ensures { λ r. ⌜ r ≡ taking self taken ⌝ }
+    {
+        Head {
+            width: self.width,
+            height: self.height,
+            taken,
+        }
+    }
 }
 
 // What reading a header answers.

@@ -11,7 +11,7 @@ use Rattle.steps.proofs.Laws.Answer.{passed, callOf, one-answer}
 use Rattle.words.specs.Lines.{lineFeed, space, past, between, firstLine, isFirst, linesEnd}
 use Rattle.words.specs.Fields.{Fields, trim, fieldsAt, axesOf}
 use Rattle.words.specs.Sizes.{sizeOf, isSize, sizeAnswer}
-use Rattle.header.specs.Head.{fieldsOf, heightField, widthField, isOther, headOf, headChecks, headerOf, paperOf, HeaderPromise, sizesAnswer, fieldsAnswer}
+use Rattle.header.specs.Head.{head, fieldsOf, heightField, widthField, isOther, headOf, headChecks, headerOf, paperOf, HeaderPromise, sizesAnswer, fieldsAnswer}
 use Rattle.words.specs.declared.sizes.Size.{Size}
 use Rattle.words.specs.declared.sizes.Size.the-variants.{Number, NoNumber}
 use Rattle.words.specs.declared.fields.Axes.{Axes}
@@ -72,7 +72,7 @@ module _ (height width : List ℕ) (taken widest highest : ℕ) (s : Size) (is :
             let k : min widest 65535 < w = rw (← em) over in
             e ∙ simp (both, height-is, width-is, le-ltb (min highest 65535) h i, lt-ltb (min widest 65535) w k)
 
-        pub sizes-read : w ≤ m → done (record { width = w; height = h; taken = taken }) ≡ sizesAnswer height width taken widest highest
+        pub sizes-read : w ≤ m → done (head w h taken) ≡ sizesAnswer height width taken widest highest
         unfolding sizesAnswer
         sizes-read under =
             let i : h ≤ min highest 65535 = rw (← el) fits in
