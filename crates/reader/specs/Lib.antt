@@ -2,3 +2,4 @@
 pub mod Samples
 pub mod Frame
 pub mod Read
+pub mod Inner

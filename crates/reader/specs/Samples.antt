@@ -1,8 +1,9 @@
 -- The samples of a row, by a rule for one pixel.
-use Prim.Native.Nat.{ℕ, zero, suc, _+_}
+use Prim.Native.Nat.{ℕ, zero, suc, _+_, _*_}
 use mathlib.Core.List.{List, [], _∷_}
 use lib.ListN.{getD}
 use lib.Ieee.{Float}
+use Rattle.steps.specs.Place.{spread}
 use Rattle.pixel.specs.declared.Pixel.{Pixel}
 use Rattle.pixel.specs.declared.Rgbe.{Rgbe}
 
@@ -18,7 +19,7 @@ rgbeAt store i = record { r = getD store i 0; g = getD store (i + 1) 0; b = getD
 abbrev pub three : Pixel → List Float → List Float
 three p rest = p .r ∷ p .g ∷ p .b ∷ rest
 
--- the samples of n pixels of the row store, from byte i on
-unfoldable pub samplesFrom : SampleRule → List ℕ → ℕ → ℕ → List Float
-samplesFrom rule store i zero = []
-samplesFrom rule store i (suc n) = three (rule (rgbeAt store i)) (samplesFrom rule store (i + 4) n)
+-- the samples of n pixels of the row store, from column i on, each pixel to its place in the frame: place p is sample 3p of the output
+unfoldable pub placed : SampleRule → (ℕ → ℕ) → List ℕ → ℕ → ℕ → List Float → List Float
+placed rule place store i zero out = out
+placed rule place store i (suc n) out = placed rule place store (i + 1) n (spread 1 out (3 * place i) (three (rule (rgbeAt store (4 * i))) []))

@@ -9,12 +9,14 @@ use steps::amount::Amount;
 use steps::refusal;
 use steps::refusal::Refusal;
 ghost use mathlib.Core.Path.{_≡_};
-ghost use Prim.Native.Nat.{_*_, _≤_};
+ghost use Prim.Native.Nat.{_+_, _*_, _≤_};
 ghost use lib.ListN.{length};
 ghost use Rattle.steps.specs.Answer.{refuse};
 ghost use Rattle.steps.specs.Amount.{amountOf};
-ghost use Rattle.reader.specs.Frame.{rowsOf};
-ghost use Rattle.reader.specs.Read.{crateRow, cratePixel, paperOf, framed, frameAnswer, ReadPromise};
+ghost use Rattle.rows.specs.Row.{crateRow};
+ghost use Rattle.reader.specs.Frame.{along, storedOf, stepOf, rowsOf};
+ghost use Rattle.reader.specs.Read.{cratePixel, paperOf, framed, ReadPromise};
+ghost use Rattle.reader.specs.Inner.{frameAnswer};
 
 // What reading a file answers: the sizes and the count of bytes taken, or a refusal.
 pub enum ReadAnswer {
@@ -22,39 +24,52 @@ pub enum ReadAnswer {
     Refused(Refusal),
 }
 
+// One row from a place of the input on, by way of the row store; its pixels lie in the frame from the place `first` on.
+pub fn step(
+    bytes: &[u8],
+    at: usize,
+    width: usize,
+    first: usize,
+    out: &mut [f32],
+    store: &mut [u8],
+) -> Taken
+    requires { ⌜ (4 * width ≤ length (now store)) × (3 * (first + width) ≤ length (now out)) ⌝ }
+    ensures { λ r. ⌜ (r, now (out .exit), now (store .exit)) ≡ stepOf crateRow cratePixel width (along first) (now (bytes .entry)) at (now (out .entry)) (now (store .entry)) ⌝ }
+{
+    let t = rows::read_row(bytes, at, store, width);
+    match t {
+        Taken::Done { next } => {
+            samples::put_samples(store, out, 3 * first, width);
+            Taken::Done { next }
+        }
+        Taken::Fault { number } => Taken::Fault { number },
+    }
+}
+
 // The rows from head.taken on, each to its place in the output.
 fn read_rows(bytes: &[u8], head: Head, out: &mut [f32], store: &mut [u8]) -> ReadAnswer
     requires { ⌜ (4 * head .width ≤ length (now store)) × (head .height * (3 * head .width) ≤ length (now out)) ⌝ }
-    ensures { λ r. ⌜ (paperOf r, now (out .exit), now (store .exit)) ≡ framed head (rowsOf crateRow cratePixel (now (bytes .entry)) (head .width) (head .height) (head .taken) (now (out .entry)) (now (store .entry))) ⌝ }
+    ensures { λ r. ⌜ (paperOf r, now (out .exit), now (store .exit)) ≡ framed head (rowsOf crateRow cratePixel (now (bytes .entry)) (storedOf head) (head .taken) (now (out .entry)) (now (store .entry))) ⌝ }
 {
     let width = head.width;
     let height = head.height;
-    let n = 3 * width;
     let mut p = head.taken;
-    let mut o = 0;
+    let mut first = 0;
     let mut k = 0;
     while k < height {
-        let t = rows::read_row(bytes, p, store, width);
+        let t = step(bytes, p, width, first, out, store);
         match t {
             Taken::Done { next } => {
                 p = next;
             }
-            Taken::Short => {
-                return ReadAnswer::Refused(Refusal {
-                    number: refusal::BYTES_END,
-                    place: k,
-                });
+            Taken::Fault { number } => {
+                return ReadAnswer::Refused(Refusal { number, place: k });
             }
         }
-        samples::put_samples(store, out, o, width);
-        o += n;
+        first += width;
         k += 1;
     }
-    ReadAnswer::Done(Head {
-        width,
-        height,
-        taken: p,
-    })
+    ReadAnswer::Done(head.taking(p))
 }
 
 // A refusal that names no place.
@@ -67,7 +82,7 @@ fn refused(number: u8) -> ReadAnswer
 // The checks 6 to 8, and then the rows.
 fn read_frame(bytes: &[u8], head: Head, out: &mut [f32], store: &mut [u8]) -> ReadAnswer
     requires { ⌜ (head .width ≤ 65535) × (head .height ≤ 65535) ⌝ }
-    ensures { λ r. ⌜ (paperOf r, now (out .exit), now (store .exit)) ≡ frameAnswer (now (bytes .entry)) head (now (out .entry)) (now (store .entry)) ⌝ }
+    ensures { λ r. ⌜ (paperOf r, now (out .exit), now (store .exit)) ≡ frameAnswer crateRow cratePixel (now (bytes .entry)) head (now (out .entry)) (now (store .entry)) ⌝ }
 {
     let width = head.width;
     let height = head.height;

@@ -6,8 +6,9 @@ ghost use mathlib.Core.List.{[]};
 ghost use Prim.Native.Nat.{_+_, _*_, _≤_};
 ghost use lib.ListN.{length, getD};
 ghost use Rattle.steps.specs.Place.{spread};
-ghost use Rattle.reader.specs.Samples.{rgbeAt, three, samplesFrom};
+ghost use Rattle.reader.specs.Samples.{rgbeAt, three};
 ghost use Rattle.reader.specs.Read.{cratePixel};
+ghost use Rattle.reader.specs.Inner.{samplesFrom};
 
 // Four bytes from a place on as one word, the first lowest.
 fn word_at(store: &[u8], i: usize) -> usize

@@ -1,26 +1,35 @@
--- The laws that proofs use of `specs/Frame.antt`.
+-- The laws that proofs use of `specs/Frame.antt`, over any rules.
+use Prim.{Unit}
 use Prim.Native.Nat.{ℕ, suc, _+_, _-_, _*_, _<_, _≤_}
 use mathlib.Core.List.{List}
-use mathlib.Core.Path.{_≡_, sym, ap, _∙_}
-use native.Mathlib.Nat.{mul-le-mul, mul-le-mul-left, mul-le-mul-right, suc-mul}
+use mathlib.Core.Path.{_≡_, refl, sym, ap, subst, _∙_}
+use native.Mathlib.Nat.{mul-le-mul, mul-le-mul-left, mul-le-mul-right, mul-left-comm, suc-mul}
 use native.Mathlib.Numerals.{add-one}
 use native.Mathlib.Omega.{arith}
-use borrow.Author.Tests.{lt-ltb, le-ltb, ltb-true}
+use borrow.Author.Tests.{lt-ltb, le-ltb, ltb-true, ltb-false}
 use lib.Dec.{ltb}
 use lib.Ieee.{Float}
-use Rattle.steps.specs.Loop.{run}
+use Rattle.steps.specs.Loop.{run, Turn, more, halt}
 use Rattle.steps.specs.Place.{spread}
-use Rattle.steps.specs.Answer.{done, refused}
+use Rattle.steps.specs.Answer.{Answer, done, refused}
+use Rattle.steps.specs.declared.Taken.{Taken}
+use Rattle.steps.specs.declared.Taken.the-variants.{Done, Fault}
 use Rattle.steps.proofs.Laws.Loop.{Runs, runs-start, runs-more, runs-halt}
-use Rattle.steps.proofs.Laws.Turns.{Falls, by-test, never-out}
-use Rattle.reader.specs.Samples.{SampleRule, samplesFrom}
-use Rattle.reader.specs.Frame.{Outcome, next, fault, RowRule, Rows, rows, Left, afterRow, rowTurn, noRows, rowsOf}
+use Rattle.steps.proofs.Laws.Turns.{by-test, Leads, run-keeps, Falls, never-out}
+use Rattle.rows.specs.Row.{RowRule}
+use Rattle.reader.specs.Samples.{SampleRule, placed}
+use Rattle.reader.specs.Frame.{Stored, along, stepped, stepOf, Rows, rows, Left, afterStep, rowTurn, noRows, rowsOf}
+use Rattle.reader.specs.Inner.{samplesFrom}
+use Rattle.reader.proofs.Laws.Samples.{placed-along}
 
 -- ---- Places
 
 -- a row's samples lie within those of all rows
-pub row-room : (row height n : ℕ) → row < height → row * n + n ≤ height * n
-row-room row height n h = rw suc-mul at (mul-le-mul-right {m = suc row} n h)
+pub row-room : (row height width first m n : ℕ) → row < height → first ≡ row * width → height * (3 * width) ≤ m → n ≡ m → 3 * (first + width) ≤ n
+row-room row height width first m n h e room same =
+    let fits : row * width + width ≤ height * width = rw suc-mul at (mul-le-mul-right {m = suc row} width h) in
+    let all : 3 * (first + width) ≤ height * (3 * width) = rw mul-left-comm (mul-le-mul-left 3 (rw e fits)) in
+    omega (arith, all)
 
 pub row-next : (row n o : ℕ) → o ≡ row * n → o + n ≡ (row + 1) * n
 row-next row n o e = rw (e, add-one, suc-mul)
@@ -29,45 +38,114 @@ row-next row n o e = rw (e, add-one, suc-mul)
 pub area-fits : (width height : ℕ) → width ≤ 65535 → height ≤ 65535 → height * (3 * width) ≤ 65535 * (3 * 65535)
 area-fits width height h k = mul-le-mul k (mul-le-mul-left 3 h)
 
+-- ---- One step
+
+module _ (rowRule : RowRule) (rule : SampleRule) (width first : ℕ) (bytes : List ℕ) (at : ℕ) (out : List Float) (store : List ℕ)
+    (t : Taken) (store′ : List ℕ) (e : (t, store′) ≡ rowRule bytes at store width) where
+  stepped-by : (place : ℕ → ℕ) → stepped rule width place out t store′ ≡ stepOf rowRule rule width place bytes at out store
+  unfolding stepOf
+  stepped-by place = ap (λ (z : Taken × List ℕ). stepped rule width place out (z .0) (z .1)) e
+
+  pub step-fault : (number : ℕ) → t ≡ Fault number → (Fault number, out, store′) ≡ stepOf rowRule rule width (along first) bytes at out store
+  step-fault number k = rw k at (stepped-by (along first))
+
+  -- a row that lies as it is stored goes to the output in one piece
+  pub step-done : (next o : ℕ) (out′ : List Float) → t ≡ Done next → o ≡ 3 * first → out′ ≡ spread 1 out o (samplesFrom rule store′ 0 width)
+      → (Done next, out′, store′) ≡ stepOf rowRule rule width (along first) bytes at out store
+  step-done next o out′ k eo es =
+      ap (λ (l : List Float). (Done next, l, store′)) (es ∙ rw eo (sym (placed-along rule first store′ out width))) ∙ (rw k at (stepped-by (along first)))
+
+-- what a step did, from its answer
+other : (next number : ℕ) → Done next ≡ Fault number → ⊥
+other next number e = let z : _≡_ {A = ℕ} 0 1 = cc in omega arith
+
+module _ (rowRule : RowRule) (rule : SampleRule) (long : ℕ) (place : ℕ → ℕ) (bytes : List ℕ) (at : ℕ) (out o : List Float) (store s : List ℕ) where
+  by-row : (L : Taken × List Float × List ℕ → Taken × List ℕ → Type 0) → ((t : Taken) (s′ : List ℕ) → L (stepped rule long place out t s′) (t, s′))
+      → L (stepOf rowRule rule long place bytes at out store) (rowRule bytes at store long)
+  unfolding stepOf
+  by-row L all = all (rowRule bytes at store long .0) (rowRule bytes at store long .1)
+
+  -- at fault: its row is, and the output is as it was
+  pub faulted : (number : ℕ) → (Fault number, o, s) ≡ stepOf rowRule rule long place bytes at out store → ((Fault number, s) ≡ rowRule bytes at store long) × (o ≡ out)
+  faulted number = by-row (λ (x : Taken × List Float × List ℕ) (y : Taken × List ℕ). _≡_ {A = Taken × List Float × List ℕ} (Fault number, o, s) x → (_≡_ {A = Taken × List ℕ} (Fault number, s) y) × (o ≡ out)) by-taken
+    where
+      by-taken : (t : Taken) (s′ : List ℕ) → (Fault number, o, s) ≡ stepped rule long place out t s′ → (_≡_ {A = Taken × List ℕ} (Fault number, s) (t, s′)) × (o ≡ out)
+      by-taken (Done next) s′ e = absurd (other next number (sym (ap (λ (z : Taken × List Float × List ℕ). z .0) e)))
+      by-taken (Fault m) s′ e = (ap (λ (z : Taken × List Float × List ℕ). (z .0, z .2)) e, ap (λ (z : Taken × List Float × List ℕ). z .1) e)
+
+  -- done: its row is read, and its samples are put
+  pub went-on : (next : ℕ) → (Done next, o, s) ≡ stepOf rowRule rule long place bytes at out store → ((Done next, s) ≡ rowRule bytes at store long) × (o ≡ placed rule place s 0 long out)
+  went-on next = by-row (λ (x : Taken × List Float × List ℕ) (y : Taken × List ℕ). _≡_ {A = Taken × List Float × List ℕ} (Done next, o, s) x → (_≡_ {A = Taken × List ℕ} (Done next, s) y) × (o ≡ placed rule place s 0 long out)) by-taken
+    where
+      by-taken : (t : Taken) (s′ : List ℕ) → (Done next, o, s) ≡ stepped rule long place out t s′ → (_≡_ {A = Taken × List ℕ} (Done next, s) (t, s′)) × (o ≡ placed rule place s 0 long out)
+      by-taken (Done m) s′ e = (ap (λ (z : Taken × List Float × List ℕ). (z .0, z .2)) e, ap (λ (z : Taken × List Float × List ℕ). z .1) e ∙ ap (λ (l : List ℕ). placed rule place l 0 long out) (sym (ap (λ (z : Taken × List Float × List ℕ). z .2) e)))
+      by-taken (Fault m) s′ e = absurd (other next m (ap (λ (z : Taken × List Float × List ℕ). z .0) e))
+
 -- ---- Rows
 
-module _ (rowRule : RowRule) (rule : SampleRule) (bytes : List ℕ) (width height : ℕ) where
+-- no refusal, or one by a number of which P holds
+abbrev By : (ℕ → Type 0) → Answer ℕ → Type 0
+By P (done at) = Unit {0}
+By P (refused number row) = P number
+
+abbrev none : Rows → Left
+none x = (done (x .at), x .out, x .store)
+
+module _ (rowRule : RowRule) (rule : SampleRule) (bytes : List ℕ) (stored : Stored) where
   pub rows-start : (at : ℕ) (out : List Float) (store : List ℕ)
-      → Runs (rowTurn rowRule rule bytes width height) noRows (height - 0) (rows at 0 store out) (rowsOf rowRule rule bytes width height at out store)
+      → Runs (rowTurn rowRule rule bytes stored) noRows (stored .count - 0) (rows at 0 store out) (rowsOf rowRule rule bytes stored at out store)
   unfolding rowsOf
   rows-start at out store = runs-start _ _ _ _ _ (omega arith)
 
   module _ (p row : ℕ) (store : List ℕ) (out : List Float) (a : Left)
-      (r : Runs (rowTurn rowRule rule bytes width height) noRows (height - row) (rows p row store out) a) where
-    pub rows-done : height ≤ row → (done p, out, store) ≡ a
+      (r : Runs (rowTurn rowRule rule bytes stored) noRows (stored .count - row) (rows p row store out) a) where
+    pub rows-done : stored .count ≤ row → (done p, out, store) ≡ a
     unfolding rowTurn
-    rows-done h = runs-halt r (simp (le-ltb row height h))
+    rows-done h = runs-halt r (simp (le-ltb row (stored .count) h))
 
-    module _ (h : row < height) (outcome : Outcome) (store′ : List ℕ) (e : (outcome, store′) ≡ rowRule bytes p store width) where
-      read-on : rowTurn rowRule rule bytes width height (rows p row store out) ≡ afterRow rule width row out outcome store′
+    module _ (h : row < stored .count) (t : Taken) (out′ : List Float) (store′ : List ℕ)
+        (e : (t, out′, store′) ≡ stepOf rowRule rule (stored .long) (stored .place row) bytes p out store) where
+      read-on : rowTurn rowRule rule bytes stored (rows p row store out) ≡ afterStep row t out′ store′
       unfolding rowTurn
-      read-on = simp (lt-ltb row height h) (ap (λ (z : Outcome × List ℕ). afterRow rule width row out (z .0) (z .1)) (sym e))
+      read-on = simp (lt-ltb row (stored .count) h) (ap (λ (z : Taken × List Float × List ℕ). afterStep row (z .0) (z .1) (z .2)) (sym e))
 
-      pub rows-fault : (number : ℕ) → outcome ≡ fault number → (refused number row, out, store′) ≡ a
+      pub rows-fault : (number : ℕ) → t ≡ Fault number → (refused number row, out′, store′) ≡ a
       rows-fault number k = runs-halt r (read-on ∙ rw k)
 
-      pub rows-again : (at n o : ℕ) (out′ : List Float) → outcome ≡ next at → n ≡ 3 * width → o ≡ row * n → out′ ≡ spread 1 out o (samplesFrom rule store′ 0 width)
-          → Runs (rowTurn rowRule rule bytes width height) noRows (height - (row + 1)) (rows at (row + 1) store′ out′) a
-      rows-again at n o out′ k en eo es = runs-more r (read-on ∙ rw (k, es, eo, en)) (omega arith)
+      pub rows-again : (at : ℕ) → t ≡ Done at → Runs (rowTurn rowRule rule bytes stored) noRows (stored .count - (row + 1)) (rows at (row + 1) store′ out′) a
+      rows-again at k = runs-more r (read-on ∙ rw k) (omega arith)
 
-  -- ---- The turns are never used up: each row takes one, and there is one for each and one for the end
-
-  falls : (x : Rows) → Falls (λ (y : Rows). height - y .row) x (rowTurn rowRule rule bytes width height x)
+  -- a turn, case by case
+  pub rows-cases : (x : Rows) (L : Turn Rows Left → Type 0)
+      → ((at : ℕ) (out : List Float) (store : List ℕ) → x .row < stored .count
+      → (Done at, out, store) ≡ stepOf rowRule rule (stored .long) (stored .place (x .row)) bytes (x .at) (x .out) (x .store) → L (more (rows at (x .row + 1) store out)))
+      → ((number : ℕ) (out : List Float) (store : List ℕ) → x .row < stored .count
+      → (Fault number, out, store) ≡ stepOf rowRule rule (stored .long) (stored .place (x .row)) bytes (x .at) (x .out) (x .store) → L (halt (refused number (x .row), out, store)))
+      → (stored .count ≤ x .row → L (halt (done (x .at), x .out, x .store))) → L (rowTurn rowRule rule bytes stored x)
   unfolding rowTurn
-  falls x =
-      let read = rowRule bytes (x .at) (x .store) width in
-      by-test (Falls (λ (y : Rows). height - y .row) x) (ltb (x .row) height) (λ t. after (read .0) (read .1) (ltb-true (x .row) height t)) (λ t. tt)
+  rows-cases x L next faults end =
+      let step = stepOf rowRule rule (stored .long) (stored .place (x .row)) bytes (x .at) (x .out) (x .store) in
+      by-test L (ltb (x .row) (stored .count)) (λ t. after (ltb-true (x .row) (stored .count) t) (step .0) (step .1) (step .2) refl) (λ t. end (ltb-false (x .row) (stored .count) t))
     where
-      after : (outcome : Outcome) (s : List ℕ) → x .row < height → Falls (λ (y : Rows). height - y .row) x (afterRow rule width (x .row) (x .out) outcome s)
-      after (next at) s h = omega arith
-      after (fault number) s h = tt
+      after : x .row < stored .count → (t : Taken) (o : List Float) (s : List ℕ)
+          → (t, o, s) ≡ stepOf rowRule rule (stored .long) (stored .place (x .row)) bytes (x .at) (x .out) (x .store) → L (afterStep (x .row) t o s)
+      after h (Done at) o s e = next at o s h e
+      after h (Fault number) o s e = faults number o s h e
 
+  -- the turns are never used up: each row takes one, and there is one for each and one for the end
   pub rows-never-out : (at : ℕ) (out : List Float) (store : List ℕ) (other : Rows → Left)
-      → rowsOf rowRule rule bytes width height at out store ≡ run (rowTurn rowRule rule bytes width height) other (height + 1) (rows at 0 store out)
+      → rowsOf rowRule rule bytes stored at out store ≡ run (rowTurn rowRule rule bytes stored) other (stored .count + 1) (rows at 0 store out)
   unfolding rowsOf
-  rows-never-out at out store other = never-out (rowTurn rowRule rule bytes width height) noRows other (λ x. height - x .row) falls _ _ (omega arith)
+  rows-never-out at out store other =
+      let μ : Rows → ℕ = λ x. stored .count - x .row in
+      never-out (rowTurn rowRule rule bytes stored) noRows other μ (λ x. rows-cases x (Falls μ x) (λ at o s h e. omega arith) (λ number o s h e. tt) (λ h. tt)) _ _ (omega arith)
+
+  -- a refusal of the rows is a row's own, with the number that its rule gave
+  pub rows-faults : (P : ℕ → Type 0) → ((at : ℕ) (s : List ℕ) (number : ℕ) (s′ : List ℕ) → (Fault number, s′) ≡ rowRule bytes at s (stored .long) → P number)
+      → (at : ℕ) (out : List Float) (store : List ℕ) (number row : ℕ) → rowsOf rowRule rule bytes stored at out store .0 ≡ refused number row → P number
+  rows-faults P given at out store number row e =
+      let kept = run-keeps (rowTurn rowRule rule bytes stored) none (λ x. Unit {0}) (λ (z : Left). By P (z .0))
+      (λ x u. rows-cases x (Leads (λ (y : Rows). Unit {0}) (λ (z : Left). By P (z .0))) (λ q o s h f. tt)
+      (λ n o s h f. given (x .at) (x .store) n s (faulted rowRule rule (stored .long) (stored .place (x .row)) bytes (x .at) (x .out) o (x .store) s n f .0)) (λ h. tt))
+      (λ x u. tt) (stored .count + 1) (rows at 0 store out) tt in
+      subst (By P) (sym (ap (λ (z : Left). z .0) (rows-never-out at out store none)) ∙ e) kept

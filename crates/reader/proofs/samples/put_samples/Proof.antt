@@ -5,7 +5,7 @@ use Prim.Native.Nat.{_+_, _*_, _≤_}
 use native.Mathlib.Omega.{arith}
 use lib.ListN.{length}
 use Rattle.steps.specs.Place.{spread}
-use Rattle.reader.specs.Samples.{samplesFrom}
+use Rattle.reader.specs.Inner.{samplesFrom}
 use Rattle.reader.specs.Read.{cratePixel}
 use Rattle.reader.proofs.Laws.Samples.{samples-again, samples-end}
 use Rattle.reader.proofs.samples.put_samples.Statement.{statement}
