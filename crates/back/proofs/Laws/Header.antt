@@ -15,7 +15,7 @@ use Rattle.steps.proofs.Laws.Place.{drop-past}
 use Rattle.words.specs.Lines.{lineFeed, space, upTo, past, between, same, isFirst, linesEnd}
 use Rattle.words.specs.Fields.{isBlank, trimStart, trimEnd, trim, minusY, plusX, axesOf}
 use Rattle.words.specs.Sizes.{isDigit, allDigits, valueFrom, isNumber, isSome, isSize, sizeOf, sizeAnswer}
-use Rattle.header.specs.Head.{limit, headerOf}
+use Rattle.header.specs.Head.{limit, head, headerOf}
 use Rattle.header.specs.Written.{digits, written}
 use Rattle.words.specs.declared.sizes.Size.the-variants.{Number}
 use Rattle.words.specs.declared.fields.Axes.the-variants.{HeightFirst}
@@ -196,7 +196,7 @@ module _ (w h : ℕ) (rest : List ℕ) where
 
   -- the written header, with any bytes after it, is read within the limits
   pub header-back : (widest highest : ℕ) → w ≤ limit widest → h ≤ limit highest
-      → headerOf bytes widest highest ≡ done (record { width = w; height = h; taken = length (written w h) })
+      → headerOf bytes widest highest ≡ done (head w h (length (written w h)))
   header-back widest highest wide high =
       let W = digits-are w in
       let H = digits-are h in
@@ -224,4 +224,4 @@ module _ (w h : ℕ) (rest : List ℕ) where
       widest highest HeightFirst (A .4) _ refl
       (sizes-read (digits h) (digits w) d widest highest (Number h) height h refl (Number w) width w refl (limit highest) refl high (limit widest) refl wide) in
       sym (header-right bytes widest highest 11 first-line true is-first _ 53 refl lines-there fields)
-      ∙ ap (λ (n : ℕ). done (record { width = w; height = h; taken = n })) taken-there
+      ∙ ap (λ (n : ℕ). done (head w h n)) taken-there
