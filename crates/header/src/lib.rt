@@ -26,14 +26,11 @@ pub struct Head {
 
 impl Head {
     // The same header, with another count of bytes taken.
-    pub fn taking(self, taken: usize) -> Head
+    pub fn taking(mut self, taken: usize) -> Head
         ensures { λ r. ⌜ r ≡ taking self taken ⌝ }
     {
-        Head {
-            width: self.width,
-            height: self.height,
-            taken,
-        }
+        self.taken = taken;
+        self
     }
 }
 
