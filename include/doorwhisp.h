@@ -5,15 +5,7 @@
  * Link with target/staticlib/libdoorwhisp.a, which `rt staticlib doorwhisp` makes. It is for x86-64 Linux and needs
  * nothing but `memset` of the C library: no -lm, no start-up call.
  *
- * THE ANSWER. Most calls fill five numbers that the caller lends; `answer` is the last parameter.
- *
- *     answer[0]   0, or the number of the refusal (see the list below)
- *     answer[1]   the row or the pixel that the refusal names, from 0; else 0
- *     answer[2]   the first value: the width, or a length
- *     answer[3]   the second value: the height, else 0
- *     answer[4]   the third value: how many bytes of the input were taken, else 0
- *
- * After a refusal the three values are 0.
+ * THE ANSWER. Most calls fill a struct doorwhisp_answer that the caller lends; `answer` is the last parameter.
  *
  * LENT MEMORY. A list is a pointer to its first element and the count of its elements (not of bytes). A refusal
  * changes nothing in it, but for 9, which leaves the rows before it in the output. Beyond a result nothing is changed.
@@ -53,13 +45,31 @@ enum doorwhisp_refusal {
     DOORWHISP_SHORT_OUTPUT = 6,  /* the output has fewer than 3 * width * height samples */
     DOORWHISP_NO_WIDTH = 7,      /* the width is 0 */
     DOORWHISP_SHORT_STORE = 8,   /* the row store has fewer than 4 * width bytes */
-    DOORWHISP_BYTES_END = 9,     /* the bytes end too early, in the row that answer[1] names */
+    DOORWHISP_BYTES_END = 9,     /* the bytes end too early, in the row that `place` names */
     DOORWHISP_OVER_LIMIT = 10,   /* writing: the width or the height is over 65,535 */
     DOORWHISP_WRONG_LENGTH = 11, /* writing: the frame has not 3 samples (4 bytes) to a pixel */
-    DOORWHISP_TOO_BRIGHT = 12,   /* writing: the pixel that answer[1] names has a sample of 2^127 or more */
+    DOORWHISP_TOO_BRIGHT = 12,   /* writing: the pixel that `place` names has a sample of 2^127 or more */
     DOORWHISP_NO_ROOM = 13,      /* writing: the file is longer than the output */
     DOORWHISP_NONE = 255         /* the two buffer sizes alone: the number passes 2^64 - 1 */
 };
+
+/*
+ * What a call answers. A value that a call does not have is 0, and after a refusal all six are. Calls that answer one
+ * count (a length, a buffer size) answer it in `taken`.
+ */
+typedef struct doorwhisp_answer {
+    uint64_t refusal;     /* 0, or the number of the refusal */
+    uint64_t place;       /* the row or the pixel that the refusal names, from 0; else 0 */
+    uint64_t width;       /* of the picture that was read */
+    uint64_t height;      /* of the picture that was read */
+    uint64_t taken;       /* how many bytes of the input were taken; or the count that was asked for */
+    uint64_t colour;      /* 0: kept for the kind of colour that a file states */
+    uint64_t exposure;    /* 0: kept for the exposure that a file states */
+    uint64_t orientation; /* 0: kept for how a file's rows lie */
+} doorwhisp_answer;
+
+/* The answer is 64 bytes, as the calls fill it: a compiler that lays it out in another way stops here. */
+typedef char doorwhisp_answer_is_64_bytes[sizeof(struct doorwhisp_answer) == 64 ? 1 : -1];
 
 /* ---- Reading ---- */
 
@@ -68,7 +78,8 @@ enum doorwhisp_refusal {
  * `widest` and `highest` are the largest width and height that the caller wants; above 65,535 they count as 65,535.
  * Refusals: 1, 2, 3, 4, 5.
  */
-void doorwhisp_read_header(const uint8_t *bytes, size_t bytes_length, size_t widest, size_t highest, uint64_t answer[5]);
+void doorwhisp_read_header(const uint8_t *bytes, size_t bytes_length, size_t widest, size_t highest,
+                           struct doorwhisp_answer *answer);
 
 /*
  * Reads a whole file: its samples into the start of `out`, by way of `store`, which holds one row. Answers width,
@@ -79,44 +90,46 @@ void doorwhisp_read_header(const uint8_t *bytes, size_t bytes_length, size_t wid
  * last row, or 0 where there is none.
  */
 void doorwhisp_read(const uint8_t *bytes, size_t bytes_length, size_t widest, size_t highest, float *out,
-                    size_t out_length, uint8_t *store, size_t store_length, uint64_t answer[5]);
+                    size_t out_length, uint8_t *store, size_t store_length, struct doorwhisp_answer *answer);
 
 /*
- * How many samples a frame has: 3 * width * height in answer[2]; or answer[0] is DOORWHISP_NONE, where that passes
+ * How many samples a frame has: 3 * width * height in `taken`; or `refusal` is DOORWHISP_NONE, where that passes
  * 2^64 - 1.
  */
-void doorwhisp_output_buffer_size(size_t width, size_t height, uint64_t answer[5]);
+void doorwhisp_output_buffer_size(size_t width, size_t height, struct doorwhisp_answer *answer);
 
 /* ---- Writing: the frame is `samples`, or, in the calls whose names end in 4, four-byte `pixels` ---- */
 
 /*
- * How long the file of the frame is, to the byte: answer[2].
+ * How long the file of the frame is, to the byte, in `taken`.
  * Refusals: 7, 10, 11, 12 (12 not for four-byte pixels).
  */
-void doorwhisp_length(size_t width, size_t height, const float *samples, size_t samples_length, uint64_t answer[5]);
-void doorwhisp_length4(size_t width, size_t height, const uint8_t *pixels, size_t pixels_length, uint64_t answer[5]);
+void doorwhisp_length(size_t width, size_t height, const float *samples, size_t samples_length,
+                      struct doorwhisp_answer *answer);
+void doorwhisp_length4(size_t width, size_t height, const uint8_t *pixels, size_t pixels_length,
+                       struct doorwhisp_answer *answer);
 
 /*
- * The length that no file of that width and height passes, and that some file has: answer[2].
+ * The length that no file of that width and height passes, and that some file has, in `taken`.
  * Refusals: 7, 10.
  */
-void doorwhisp_worst(size_t width, size_t height, uint64_t answer[5]);
+void doorwhisp_worst(size_t width, size_t height, struct doorwhisp_answer *answer);
 
 /*
- * Writes the file of the frame to the start of `out`; its length is answer[2]. Room for the worst length is always
+ * Writes the file of the frame to the start of `out`; its length is in `taken`. Room for the worst length is always
  * enough, and then the length is not counted first.
  * Refusals: 7, 10, 11, 12, 13 (12 not for four-byte pixels); each leaves `out` as it was lent.
  */
 void doorwhisp_write(size_t width, size_t height, const float *samples, size_t samples_length, uint8_t *out,
-                     size_t out_length, uint64_t answer[5]);
+                     size_t out_length, struct doorwhisp_answer *answer);
 void doorwhisp_write4(size_t width, size_t height, const uint8_t *pixels, size_t pixels_length, uint8_t *out,
-                      size_t out_length, uint64_t answer[5]);
+                      size_t out_length, struct doorwhisp_answer *answer);
 
 /*
- * zune-hdr's guess at the length of a file, 4 * width * height + 1024, in answer[2]; or answer[0] is DOORWHISP_NONE,
+ * zune-hdr's guess at the length of a file, 4 * width * height + 1024, in `taken`; or `refusal` is DOORWHISP_NONE,
  * where that passes 2^64 - 1. Some files are longer: doorwhisp_worst is the length to trust.
  */
-void doorwhisp_expected_buffer_size(size_t width, size_t height, uint64_t answer[5]);
+void doorwhisp_expected_buffer_size(size_t width, size_t height, struct doorwhisp_answer *answer);
 
 /* ---- One pixel ---- */
 

@@ -31,7 +31,7 @@ extern "C" {
         out_length: usize,
         store: *mut u8,
         store_length: usize,
-        answer: *mut [u64; 5],
+        answer: *mut [u64; 8],
     );
     fn doorwhisp_write(
         width: usize,
@@ -40,14 +40,14 @@ extern "C" {
         count: usize,
         out: *mut u8,
         out_length: usize,
-        answer: *mut [u64; 5],
+        answer: *mut [u64; 8],
     );
 }
 
 /// Our reader.
 fn read_ours(file: &[u8], out: &mut [f32]) {
     let mut store = vec![0; 4 * WIDTH];
-    let mut answer = [1; 5];
+    let mut answer = [1; 8];
     unsafe {
         doorwhisp_read(
             file.as_ptr(),
@@ -61,7 +61,7 @@ fn read_ours(file: &[u8], out: &mut [f32]) {
             &mut answer,
         )
     };
-    assert_eq!(answer, [0, 0, WIDTH as u64, HEIGHT as u64, file.len() as u64], "our reader's answer");
+    assert_eq!(answer, [0, 0, WIDTH as u64, HEIGHT as u64, file.len() as u64, 0, 0, 0], "our reader's answer");
 }
 
 /// The Rust's reader.
@@ -74,10 +74,10 @@ fn read_rust(file: &[u8], out: &mut [f32]) {
 
 /// Our writer, and the length of the file.
 fn write_ours(samples: &[f32], out: &mut [u8]) -> usize {
-    let mut answer = [1; 5];
+    let mut answer = [1; 8];
     unsafe { doorwhisp_write(WIDTH, HEIGHT, samples.as_ptr(), samples.len(), out.as_mut_ptr(), out.len(), &mut answer) };
     assert_eq!(answer[..2], [0, 0], "our writer's answer");
-    answer[2] as usize
+    answer[4] as usize
 }
 
 /// The Rust's writer, and the length of the file.

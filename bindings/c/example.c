@@ -32,8 +32,9 @@ static const char *words(uint64_t number) {
 }
 
 /* Prints a refusal, and answers 1. */
-static int refused(const char *name, const uint64_t answer[5]) {
-    printf("%s: refusal %d at %lu: %s\n", name, (int)answer[0], (unsigned long)answer[1], words(answer[0]));
+static int refused(const char *name, const doorwhisp_answer *answer) {
+    printf("%s: refusal %d at %lu: %s\n", name, (int)answer->refusal, (unsigned long)answer->place,
+           words(answer->refusal));
     return 1;
 }
 
@@ -52,34 +53,34 @@ static void print_range(const float *samples, size_t count) {
 
 /* Reads a picture that is in memory, and says what it is. */
 static int show(const char *name, const uint8_t *bytes, size_t length) {
-    uint64_t answer[5];
+    doorwhisp_answer answer;
     size_t count, row;
     float *out;
     uint8_t *store;
 
-    doorwhisp_read_header(bytes, length, 65535, 65535, answer);
-    if (answer[0] != 0) return refused(name, answer);
-    count = 3 * (size_t)answer[2] * (size_t)answer[3];
-    row = 4 * (size_t)answer[2];
+    doorwhisp_read_header(bytes, length, 65535, 65535, &answer);
+    if (answer.refusal != 0) return refused(name, &answer);
+    count = 3 * (size_t)answer.width * (size_t)answer.height;
+    row = 4 * (size_t)answer.width;
     out = malloc(count * sizeof *out + 1);
     store = malloc(row + 1);
     if (out == NULL || store == NULL) {
         printf("%s: no memory\n", name);
-        answer[0] = 1;
+        answer.refusal = 1;
     } else {
-        doorwhisp_read(bytes, length, 65535, 65535, out, count, store, row, answer);
-        if (answer[0] != 0) {
-            refused(name, answer);
+        doorwhisp_read(bytes, length, 65535, 65535, out, count, store, row, &answer);
+        if (answer.refusal != 0) {
+            refused(name, &answer);
         } else {
-            printf("%s: %lu by %lu pixels, %lu of %lu bytes taken", name, (unsigned long)answer[2],
-                   (unsigned long)answer[3], (unsigned long)answer[4], (unsigned long)length);
+            printf("%s: %lu by %lu pixels, %lu of %lu bytes taken", name, (unsigned long)answer.width,
+                   (unsigned long)answer.height, (unsigned long)answer.taken, (unsigned long)length);
             print_range(out, count);
             printf("\n");
         }
     }
     free(out);
     free(store);
-    return answer[0] != 0;
+    return answer.refusal != 0;
 }
 
 /* Reads a file into memory; the caller frees it. Answers a null pointer where the file cannot be had. */
@@ -100,7 +101,7 @@ static uint8_t *load(const char *name, size_t *length) {
 static int own_frame(void) {
     float samples[3 * 8 * 2];
     uint8_t file[143];
-    uint64_t answer[5];
+    doorwhisp_answer answer;
     size_t i;
 
     for (i = 0; i < 3 * 8 * 2; i += 3) {
@@ -108,14 +109,14 @@ static int own_frame(void) {
         samples[i + 1] = 0.5f;
         samples[i + 2] = 0.3f;
     }
-    doorwhisp_worst(8, 2, answer);
-    if (answer[0] != 0) return refused("worst", answer);
-    printf("a file of 8 by 2 pixels has at most %lu bytes\n", (unsigned long)answer[2]);
-    doorwhisp_write(8, 2, samples, 3 * 8 * 2, file, sizeof file, answer);
-    if (answer[0] != 0) return refused("written", answer);
-    printf("this one has %lu\n", (unsigned long)answer[2]);
-    show("cut short", file, (size_t)answer[2] - 2);
-    return show("whole", file, (size_t)answer[2]);
+    doorwhisp_worst(8, 2, &answer);
+    if (answer.refusal != 0) return refused("worst", &answer);
+    printf("a file of 8 by 2 pixels has at most %lu bytes\n", (unsigned long)answer.taken);
+    doorwhisp_write(8, 2, samples, 3 * 8 * 2, file, sizeof file, &answer);
+    if (answer.refusal != 0) return refused("written", &answer);
+    printf("this one has %lu\n", (unsigned long)answer.taken);
+    show("cut short", file, (size_t)answer.taken - 2);
+    return show("whole", file, (size_t)answer.taken);
 }
 
 int main(int count, char **names) {

@@ -1,9 +1,25 @@
 //! The calls as they are linked (`include/doorwhisp.h`), each behind a safe function.
 
 use crate::HdrError;
+use std::mem::size_of;
 
-/// The refusal's number or 0, its place or 0, and three values.
-type Answer = [u64; 5];
+/// What a call answers, as it fills it: the refusal's number or 0, its place or 0, and six values. A call that answers
+/// one count answers it in `taken`.
+#[derive(Clone, Copy, Debug, Default)]
+#[repr(C)]
+struct Answer {
+    refusal: u64,
+    place: u64,
+    width: u64,
+    height: u64,
+    taken: u64,
+    /// The last three are 0 so far.
+    _colour: u64,
+    _exposure: u64,
+    _orientation: u64,
+}
+
+const _: () = assert!(size_of::<Answer>() == 64);
 
 #[rustfmt::skip]
 extern "C" {
@@ -37,35 +53,30 @@ pub struct Head {
     pub taken: usize,
 }
 
-/// The three values, or the refusal.
-fn values(call: impl FnOnce(&mut Answer)) -> Result<[usize; 3], HdrError> {
-    let mut answer = [0; 5];
+/// The sizes and the count, or the refusal.
+fn head(call: impl FnOnce(&mut Answer)) -> Result<Head, HdrError> {
+    let mut answer = Answer::default();
     call(&mut answer);
-    match answer[0] {
-        0 => Ok([answer[2] as usize, answer[3] as usize, answer[4] as usize]),
-        number => Err(HdrError::numbered(number, answer[1] as usize)),
+    match answer.refusal {
+        0 => Ok(Head {
+            width: answer.width as usize,
+            height: answer.height as usize,
+            taken: answer.taken as usize,
+        }),
+        number => Err(HdrError::numbered(number, answer.place as usize)),
     }
 }
 
-/// The first value, or the refusal.
+/// The count alone, or the refusal.
 fn length(call: impl FnOnce(&mut Answer)) -> Result<usize, HdrError> {
-    values(call).map(|[n, _, _]| n)
+    head(call).map(|head| head.taken)
 }
 
-/// The sizes, or the refusal.
-fn head(call: impl FnOnce(&mut Answer)) -> Result<Head, HdrError> {
-    values(call).map(|[width, height, taken]| Head {
-        width,
-        height,
-        taken,
-    })
-}
-
-/// The first value, unless there is none.
+/// The count, unless there is none.
 fn amount(call: impl FnOnce(&mut Answer)) -> Option<usize> {
-    let mut answer = [0; 5];
+    let mut answer = Answer::default();
     call(&mut answer);
-    (answer[0] == 0).then_some(answer[2] as usize)
+    (answer.refusal == 0).then_some(answer.taken as usize)
 }
 
 // Each slice below is handed over as its pointer, which is never null, and its length; the call keeps neither.

@@ -1,4 +1,4 @@
--- What each call leaves in the lent answer and in every other lent list: the promise of the call below it, as five numbers.
+-- What each call leaves in the lent answer and in every other lent list: the promise of the call below it, as eight numbers.
 use Prim.Native.Nat.{ℕ, _*_, _+_}
 use mathlib.Core.List.{List}
 use mathlib.Core.Path.{_≡_}

@@ -23,7 +23,7 @@ pub extern "C" fn doorwhisp_read_header(
     bytes: &[u8],
     widest: usize,
     highest: usize,
-    answer: &mut [u64; 5],
+    answer: &mut [u64; 8],
 )
     ensures { λ _. ⌜ ReadHeader (now (bytes .entry)) widest highest (now (answer .exit)) ⌝ }
 {
@@ -38,7 +38,7 @@ pub extern "C" fn doorwhisp_read(
     highest: usize,
     out: &mut [f32],
     store: &mut [u8],
-    answer: &mut [u64; 5],
+    answer: &mut [u64; 8],
 )
     ensures { λ _. ⌜ Read (now (bytes .entry)) widest highest (now (out .entry)) (now (store .entry)) (now (answer .exit)) (now (out .exit)) (now (store .exit)) ⌝ }
 {
@@ -47,7 +47,7 @@ pub extern "C" fn doorwhisp_read(
 
 // How many samples a frame has.
 #[no_mangle]
-pub extern "C" fn doorwhisp_output_buffer_size(width: usize, height: usize, answer: &mut [u64; 5])
+pub extern "C" fn doorwhisp_output_buffer_size(width: usize, height: usize, answer: &mut [u64; 8])
     ensures { λ _. ⌜ OutputBufferSize width height (now (answer .exit)) ⌝ }
 {
     numbers::amount(answer, reader::output_buffer_size(width, height));
@@ -59,7 +59,7 @@ pub extern "C" fn doorwhisp_length(
     width: usize,
     height: usize,
     samples: &[f32],
-    answer: &mut [u64; 5],
+    answer: &mut [u64; 8],
 )
     ensures { λ _. ⌜ Length width height (now (samples .entry)) (now (answer .exit)) ⌝ }
 {
@@ -72,7 +72,7 @@ pub extern "C" fn doorwhisp_length4(
     width: usize,
     height: usize,
     pixels: &[u8],
-    answer: &mut [u64; 5],
+    answer: &mut [u64; 8],
 )
     ensures { λ _. ⌜ Length4 width height (now (pixels .entry)) (now (answer .exit)) ⌝ }
 {
@@ -81,7 +81,7 @@ pub extern "C" fn doorwhisp_length4(
 
 // The length that no file of that width and height passes.
 #[no_mangle]
-pub extern "C" fn doorwhisp_worst(width: usize, height: usize, answer: &mut [u64; 5])
+pub extern "C" fn doorwhisp_worst(width: usize, height: usize, answer: &mut [u64; 8])
     ensures { λ _. ⌜ Worst width height (now (answer .exit)) ⌝ }
 {
     numbers::written(answer, writer::worst(width, height));
@@ -94,7 +94,7 @@ pub extern "C" fn doorwhisp_write(
     height: usize,
     samples: &[f32],
     out: &mut [u8],
-    answer: &mut [u64; 5],
+    answer: &mut [u64; 8],
 )
     ensures { λ _. ⌜ Write width height (now (samples .entry)) (now (out .entry)) (now (answer .exit)) (now (out .exit)) ⌝ }
 {
@@ -108,7 +108,7 @@ pub extern "C" fn doorwhisp_write4(
     height: usize,
     pixels: &[u8],
     out: &mut [u8],
-    answer: &mut [u64; 5],
+    answer: &mut [u64; 8],
 )
     ensures { λ _. ⌜ Write4 width height (now (pixels .entry)) (now (out .entry)) (now (answer .exit)) (now (out .exit)) ⌝ }
 {
@@ -117,7 +117,7 @@ pub extern "C" fn doorwhisp_write4(
 
 // The Rust's formula for the length of a file, which some files pass.
 #[no_mangle]
-pub extern "C" fn doorwhisp_expected_buffer_size(width: usize, height: usize, answer: &mut [u64; 5])
+pub extern "C" fn doorwhisp_expected_buffer_size(width: usize, height: usize, answer: &mut [u64; 8])
     ensures { λ _. ⌜ ExpectedBufferSize width height (now (answer .exit)) ⌝ }
 {
     numbers::amount(answer, writer::expected_buffer_size(width, height));

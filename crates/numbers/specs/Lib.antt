@@ -1,2 +1,2 @@
--- The answer of any call as five numbers.
+-- The answer of any call as eight numbers.
 pub mod Numbers

@@ -1,4 +1,4 @@
--- The answer of any call as five numbers: the number of the refusal or 0, its place or 0, and three values, each 0 where there is none.
+-- The answer of any call as eight numbers: the number of the refusal or 0, its place or 0, and six values, each 0 where there is none.
 use Prim.Native.Nat.{ℕ}
 use mathlib.Core.List.{List, [], _∷_}
 use Rattle.steps.specs.Answer.{Answer, done, refused, refuse}
@@ -6,31 +6,42 @@ use Rattle.steps.specs.declared.amount.Amount.{Amount}
 use Rattle.steps.specs.declared.amount.Amount.the-variants.{Number, None}
 use Rattle.header.specs.declared.Head.{Head}
 
--- what a call that does not refuse returns, as three numbers
+-- what a call that does not refuse returns, as six numbers; colour, exposure and orientation are 0 so far
 pub record Values : Type 0 where
-  pub first : ℕ
-  pub second : ℕ
-  pub third : ℕ
+  pub width : ℕ
+  pub height : ℕ
+  pub taken : ℕ
+  pub colour : ℕ
+  pub exposure : ℕ
+  pub orientation : ℕ
 
--- width, height, and the count of bytes taken
+-- of a header or a file read: width, height, and the count of bytes taken
 abbrev pub sizes : Head → Values
-sizes head = record { first = head .width; second = head .height; third = head .taken }
+sizes head = record { width = head .width; height = head .height; taken = head .taken; colour = 0; exposure = 0; orientation = 0 }
 
--- one number, as a length
+-- of a call that returns one number: it is a count, and stands where the count of bytes taken does
 abbrev pub single : ℕ → Values
-single n = record { first = n; second = 0; third = 0 }
+single n = record { width = 0; height = 0; taken = n; colour = 0; exposure = 0; orientation = 0 }
 
--- the five numbers of the paper's answer
+-- the eight numbers: of an answer, the values after two 0s
+abbrev pub listed : Values → List ℕ
+listed v = 0 ∷ 0 ∷ v .width ∷ v .height ∷ v .taken ∷ v .colour ∷ v .exposure ∷ v .orientation ∷ []
+
+-- the eight numbers: of a refusal, its number and place before six 0s
+abbrev pub stopped : ℕ → ℕ → List ℕ
+stopped number place = number ∷ place ∷ 0 ∷ 0 ∷ 0 ∷ 0 ∷ 0 ∷ 0 ∷ []
+
+-- the eight numbers of the paper's answer
 abbrev pub numbers : {A : Type 0} → (A → Values) → Answer A → List ℕ
-numbers values (done a) = 0 ∷ 0 ∷ values a .first ∷ values a .second ∷ values a .third ∷ []
-numbers values (refused number place) = number ∷ place ∷ 0 ∷ 0 ∷ 0 ∷ []
+numbers values (done a) = listed (values a)
+numbers values (refused number place) = stopped number place
 
 -- a number, or "none", which counts as the refusal 255: the table of document 01 has no such number
 abbrev pub counted : Amount → Answer ℕ
 counted (Number n) = done n
 counted None = refuse 255
 
--- the five numbers, and the lent lists as they are
+-- the eight numbers, and the lent lists as they are
 abbrev pub withOne : {A B : Type 0} → (A → Values) → Answer A × B → List ℕ × B
 withOne values left = (numbers values (left .0), left .1)
 

@@ -1,4 +1,4 @@
-// The five numbers of an answer, as programs in C and Rust get them.
+// The eight numbers of an answer, as programs in C and Rust get them.
 use header::Head;
 use header::HeadAnswer;
 use reader::ReadAnswer;
@@ -6,18 +6,17 @@ use steps::amount::Amount;
 use steps::refusal::Refusal;
 use writer::WriteAnswer;
 ghost use mathlib.Core.Path.{_≡_};
-ghost use mathlib.Core.List.{_∷_, []};
 ghost use Rattle.steps.specs.Answer.{done};
 ghost use Rattle.header.specs.Head as header;
 ghost use Rattle.reader.specs.Read as reader;
 ghost use Rattle.writer.specs.Write as writer;
-ghost use Rattle.numbers.specs.Numbers.{sizes, single, numbers, counted};
+ghost use Rattle.numbers.specs.Numbers.{sizes, single, stopped, numbers, counted};
 
 // That there is no such number: it passes 2^64 - 1.
 const NONE: u64 = 255;
 
 // Width, height and the count of bytes taken.
-fn sizes(answer: &mut [u64; 5], head: Head)
+fn sizes(answer: &mut [u64; 8], head: Head)
     ensures { λ _. ⌜ now (answer .exit) ≡ numbers sizes (done head) ⌝ }
 {
     *answer = [
@@ -26,25 +25,37 @@ fn sizes(answer: &mut [u64; 5], head: Head)
         head.width as u64,
         head.height as u64,
         head.taken as u64,
+        0,
+        0,
+        0,
     ];
 }
 
-// One number, as a length.
-fn single(answer: &mut [u64; 5], n: usize)
+// One number, where the count of bytes taken stands.
+fn single(answer: &mut [u64; 8], n: usize)
     ensures { λ _. ⌜ now (answer .exit) ≡ numbers single (done n) ⌝ }
 {
-    *answer = [0, 0, n as u64, 0, 0];
+    *answer = [0, 0, 0, 0, n as u64, 0, 0, 0];
 }
 
 // A refusal's number and place.
-fn refused(answer: &mut [u64; 5], refusal: Refusal)
-    ensures { λ _. ⌜ now (answer .exit) ≡ refusal .number ∷ refusal .place ∷ 0 ∷ 0 ∷ 0 ∷ [] ⌝ }
+fn refused(answer: &mut [u64; 8], refusal: Refusal)
+    ensures { λ _. ⌜ now (answer .exit) ≡ stopped (refusal .number) (refusal .place) ⌝ }
 {
-    *answer = [refusal.number as u64, refusal.place as u64, 0, 0, 0];
+    *answer = [
+        refusal.number as u64,
+        refusal.place as u64,
+        0,
+        0,
+        0,
+        0,
+        0,
+        0,
+    ];
 }
 
 // What reading a header answers.
-pub fn head(answer: &mut [u64; 5], told: HeadAnswer)
+pub fn head(answer: &mut [u64; 8], told: HeadAnswer)
     ensures { λ _. ⌜ now (answer .exit) ≡ numbers sizes (header.paperOf told) ⌝ }
 {
     match told {
@@ -54,7 +65,7 @@ pub fn head(answer: &mut [u64; 5], told: HeadAnswer)
 }
 
 // What reading a file answers.
-pub fn read(answer: &mut [u64; 5], told: ReadAnswer)
+pub fn read(answer: &mut [u64; 8], told: ReadAnswer)
     ensures { λ _. ⌜ now (answer .exit) ≡ numbers sizes (reader.paperOf told) ⌝ }
 {
     match told {
@@ -64,7 +75,7 @@ pub fn read(answer: &mut [u64; 5], told: ReadAnswer)
 }
 
 // What a call of the writer answers.
-pub fn written(answer: &mut [u64; 5], told: WriteAnswer)
+pub fn written(answer: &mut [u64; 8], told: WriteAnswer)
     ensures { λ _. ⌜ now (answer .exit) ≡ numbers single (writer.paperOf told) ⌝ }
 {
     match told {
@@ -74,13 +85,13 @@ pub fn written(answer: &mut [u64; 5], told: WriteAnswer)
 }
 
 // A number, or that there is none.
-pub fn amount(answer: &mut [u64; 5], told: Amount)
+pub fn amount(answer: &mut [u64; 8], told: Amount)
     ensures { λ _. ⌜ now (answer .exit) ≡ numbers single (counted told) ⌝ }
 {
     match told {
         Amount::Number(n) => single(answer, n),
         Amount::None => {
-            *answer = [NONE, 0, 0, 0, 0];
+            *answer = [NONE, 0, 0, 0, 0, 0, 0, 0];
         }
     }
 }

@@ -1,4 +1,4 @@
--- `numbers::single` meets its contract: the first value is the number.
+-- `numbers::single` meets its contract: the number stands as the count.
 use borrow.Author.Needs.{needs}
 use Rattle.numbers.proofs.single.Statement.{statement}
 use Rattle.numbers.proofs.single.Tie as tie

@@ -1,4 +1,4 @@
--- `numbers::sizes` meets its contract: the three values are the sizes and the count.
+-- `numbers::sizes` meets its contract: the values are those of the header.
 use borrow.Author.Needs.{needs}
 use Rattle.numbers.proofs.sizes.Statement.{statement}
 use Rattle.numbers.proofs.sizes.Tie as tie
