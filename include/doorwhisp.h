@@ -24,12 +24,42 @@
  *
  * SAMPLES are three floats to a pixel, row by row from the top, red, green, blue. A four-byte pixel is three
  * mantissas and the exponent byte.
+ *
+ * THE READING is that of zune-hdr 0.5.2, and not always that of the Radiance documents:
+ *   - Light is as the document has it at the exponent bytes 97 to 159, and 0 is black. At 1 to 96 it is shown too
+ *     bright, at 160 to 255 too dark, by 2^32 or a power of it.
+ *   - Of the cuts in a row, those among the bytes of the file's last count are not refused: where the last row is coded
+ *     and the file ends after its last count, the exponent bytes that are missing, 128 at most, are read as 0, and
+ *     those pixels are black. Every other cut in a row is refusal 9.
+ *   - +X w -Y h is read row by row, as -Y h +X w is, though by the document it lies column by column.
+ *   - Header lines are passed over. EXPOSURE is not applied, and FORMAT is not looked at: samples of a file that
+ *     states 32-bit_rle_xyze are X, Y and Z.
+ *   - Old runs (pixels 1, 1, 1, n in flat rows) go by zune-hdr's way, which gives other pixels than the document's.
+ *   - The format has no checksum: damage that leaves enough bytes is read as some other picture.
+ *
+ * THE WRITING. A negative sample and one that is no number are written as 0, and a pixel whose largest sample is not
+ * above 1e-32 as black; 2^127 and more, plus infinity too, is refusal 12. Each sample is rounded down, by less than one
+ * step of its pixel. What is written is read back so where each pixel's largest sample is 0 or from 2^-32 to below
+ * 2^31; darker pixels come back too bright and brighter ones too dark.
  */
 #ifndef DOORWHISP_H
 #define DOORWHISP_H
 
 #include <stddef.h>
 #include <stdint.h>
+
+/* The version of this header, as words and as a number: 10000 * major + 100 * minor + patch. */
+#define DOORWHISP_VERSION "0.1.0"
+#define DOORWHISP_VERSION_NUMBER 100
+
+/* How the functions that stand in this header are declared. */
+#if defined(__cplusplus) || (defined(__STDC_VERSION__) && __STDC_VERSION__ >= 199901L)
+#define DOORWHISP_HERE static inline
+#elif defined(__GNUC__)
+#define DOORWHISP_HERE static __inline__
+#else
+#define DOORWHISP_HERE static
+#endif
 
 #ifdef __cplusplus
 extern "C" {
@@ -70,6 +100,38 @@ typedef struct doorwhisp_answer {
 
 /* The answer is 64 bytes, as the calls fill it: a compiler that lays it out in another way stops here. */
 typedef char doorwhisp_answer_is_64_bytes[sizeof(struct doorwhisp_answer) == 64 ? 1 : -1];
+
+/* What the number of a refusal means, as a sentence without a full stop. */
+DOORWHISP_HERE const char *doorwhisp_words(uint64_t refusal) {
+    switch (refusal) {
+    case 0: return "nothing is wrong";
+    case DOORWHISP_FIRST_LINE: return "this is no Radiance file, its first line is wrong";
+    case DOORWHISP_AXES: return "the picture is turned in a way that is not read";
+    case DOORWHISP_SIZE: return "the file does not say its height and width in numbers";
+    case DOORWHISP_TOO_HIGH: return "the picture is higher than the limit";
+    case DOORWHISP_TOO_WIDE: return "the picture is wider than the limit";
+    case DOORWHISP_SHORT_OUTPUT: return "the output is too short for the picture";
+    case DOORWHISP_NO_WIDTH: return "the picture has no width";
+    case DOORWHISP_SHORT_STORE: return "the row store is too short for a row";
+    case DOORWHISP_BYTES_END: return "the file ends in this row";
+    case DOORWHISP_OVER_LIMIT: return "the picture is over 65,535 wide or high";
+    case DOORWHISP_WRONG_LENGTH: return "the frame does not have the length that its sizes ask for";
+    case DOORWHISP_TOO_BRIGHT: return "this pixel is too bright for the format";
+    case DOORWHISP_NO_ROOM: return "the output is too short for the file";
+    case DOORWHISP_NONE: return "the number passes 2^64 - 1";
+    default: return "there is no such refusal";
+    }
+}
+
+/*
+ * How many bytes the rows of a picture take at least, for sizes up to 65,535 as doorwhisp_read_header answers them.
+ * A file with fewer bytes after its header is refused by 9 in some row, so that no memory need be had for it. This is
+ * worked out by hand and tested, not proved.
+ */
+DOORWHISP_HERE uint64_t doorwhisp_least(uint64_t width, uint64_t height) {
+    const uint64_t rows = 4 * (width < 3 ? width : 3) * height;
+    return height > 0 && width >= 8 && width <= 127 ? rows - 1 : rows;
+}
 
 /* ---- Reading ---- */
 

@@ -11,30 +11,10 @@
 
 #include "doorwhisp.h"
 
-/* What a refusal means, in words. */
-static const char *words(uint64_t number) {
-    switch (number) {
-    case DOORWHISP_FIRST_LINE: return "this is no Radiance file, its first line is wrong";
-    case DOORWHISP_AXES: return "the picture is turned in a way that is not read";
-    case DOORWHISP_SIZE: return "the file does not say its height and width in numbers";
-    case DOORWHISP_TOO_HIGH: return "the picture is higher than the limit";
-    case DOORWHISP_TOO_WIDE: return "the picture is wider than the limit";
-    case DOORWHISP_SHORT_OUTPUT: return "the output is too short for the picture";
-    case DOORWHISP_NO_WIDTH: return "the picture has no width";
-    case DOORWHISP_SHORT_STORE: return "the row store is too short for a row";
-    case DOORWHISP_BYTES_END: return "the file ends in this row";
-    case DOORWHISP_OVER_LIMIT: return "the picture is over 65,535 wide or high";
-    case DOORWHISP_WRONG_LENGTH: return "the frame does not have the length that its sizes ask for";
-    case DOORWHISP_TOO_BRIGHT: return "this pixel is too bright for the format";
-    case DOORWHISP_NO_ROOM: return "the output is too short for the file";
-    default: return "the number passes 2^64 - 1";
-    }
-}
-
 /* Prints a refusal, and answers 1. */
 static int refused(const char *name, const doorwhisp_answer *answer) {
     printf("%s: refusal %d at %lu: %s\n", name, (int)answer->refusal, (unsigned long)answer->place,
-           words(answer->refusal));
+           doorwhisp_words(answer->refusal));
     return 1;
 }
 
@@ -51,6 +31,15 @@ static void print_range(const float *samples, size_t count) {
     printf(", samples from %g to %g", darkest, brightest);
 }
 
+/* Whether there may be bytes for all the rows after a header, so that it is worth to ask for memory; else says so. */
+static int may_hold_rows(const char *name, const doorwhisp_answer *head, size_t length) {
+    const uint64_t least = doorwhisp_least(head->width, head->height), found = length - head->taken;
+    if (found >= least) return 1;
+    printf("%s: refusal 9: its rows take %lu bytes at least, and %lu follow its header\n", name, (unsigned long)least,
+           (unsigned long)found);
+    return 0;
+}
+
 /* Reads a picture that is in memory, and says what it is. */
 static int show(const char *name, const uint8_t *bytes, size_t length) {
     doorwhisp_answer answer;
@@ -60,6 +49,7 @@ static int show(const char *name, const uint8_t *bytes, size_t length) {
 
     doorwhisp_read_header(bytes, length, 65535, 65535, &answer);
     if (answer.refusal != 0) return refused(name, &answer);
+    if (!may_hold_rows(name, &answer, length)) return 1;
     count = 3 * (size_t)answer.width * (size_t)answer.height;
     row = 4 * (size_t)answer.width;
     out = malloc(count * sizeof *out + 1);
@@ -97,7 +87,7 @@ static uint8_t *load(const char *name, size_t *length) {
     return bytes;
 }
 
-/* Writes a frame of 8 by 2 equal pixels, and reads it back, whole and cut short. */
+/* Writes a frame of 8 by 2 pixels, and reads it back, whole and cut short. */
 static int own_frame(void) {
     float samples[3 * 8 * 2];
     uint8_t file[143];
@@ -106,7 +96,7 @@ static int own_frame(void) {
 
     for (i = 0; i < 3 * 8 * 2; i += 3) {
         samples[i] = 1.0f;
-        samples[i + 1] = 0.5f;
+        samples[i + 1] = i % 2 == 0 ? 0.5f : 0.25f;
         samples[i + 2] = 0.3f;
     }
     doorwhisp_worst(8, 2, &answer);

@@ -1,0 +1,115 @@
+/* Holds what doorwhisp.h says to what the calls do: prints what is not so. The exit status is 0, or 1 where something is not. */
+#include <math.h>
+#include <stdio.h>
+#include <string.h>
+
+#include "doorwhisp.h"
+
+static int status = 0;
+
+static void hold(int so, const char *what, int at) {
+    if (so) return;
+    printf("not so at %d: %s\n", at, what);
+    status = 1;
+}
+
+/* Reads a file of at most 8 pixels, with an answer that was used before. */
+static doorwhisp_answer read_file(const void *file, size_t length, float samples[24]) {
+    doorwhisp_answer answer;
+    uint8_t store[32];
+    memset(&answer, 7, sizeof answer);
+    doorwhisp_read((const uint8_t *)file, length, 65535, 65535, samples, 24, store, 32, &answer);
+    return answer;
+}
+
+static doorwhisp_answer read_text(const char *file, float samples[24]) {
+    return read_file(file, strlen(file), samples);
+}
+
+/* Each refusal has words of its own, and so has what is none. */
+static void hold_words(void) {
+    int i, k;
+    for (i = 0; i <= 14; i++)
+        for (k = 0; k < i; k++) hold(strcmp(doorwhisp_words(i), doorwhisp_words(k)) != 0, "words of their own", i);
+    hold(strcmp(doorwhisp_words(DOORWHISP_NONE), doorwhisp_words(14)) != 0, "words for none", 255);
+}
+
+/* Light is as the document has it at the exponent bytes 97 to 159 and at 0; too bright below, too dark above. */
+static void hold_exponents(void) {
+    int e;
+    for (e = 0; e <= 255; e++) {
+        float found[3];
+        double document = e == 0 ? 0.0 : ldexp(128.0, e - 136);
+        doorwhisp_pixel_from_bytes(128, 0, 0, (uint8_t)e, found);
+        hold((found[0] == document) == (e == 0 || (e >= 97 && e <= 159)), "exponent bytes that are the document's", e);
+        hold(e > 96 || found[0] >= document, "too bright below", e);
+        hold(e < 160 || found[0] < document, "too dark above", e);
+    }
+}
+
+/* A coded row of 8 that is cut: after its last count the exponents that are missing are black, before it 9 is answered. */
+static void hold_cuts(void) {
+    static const char head[] = "#?RGBE\n\n-Y 1 +X 8\n";
+    static const uint8_t row[] = {2, 2, 0, 8, 136, 128, 136, 128, 136, 128, 8, 129, 129, 129, 129, 129, 129, 129, 129};
+    const size_t start = sizeof head - 1;
+    uint8_t file[64];
+    size_t cut, i;
+    memcpy(file, head, start);
+    memcpy(file + start, row, sizeof row);
+    for (cut = 0; cut <= sizeof row; cut++) {
+        float samples[24];
+        doorwhisp_answer answer = read_file(file, start + cut, samples);
+        hold(answer.refusal == (cut < 11 ? DOORWHISP_BYTES_END : 0), "which cuts are refused", (int)cut);
+        for (i = 0; cut >= 11 && i < 24; i++)
+            hold(samples[i] == (i / 3 + 11 < cut ? 1.0f : 0.0f), "which pixels are black", (int)cut);
+    }
+}
+
+/* Lines of the header are passed over, both axes are rows of w, and all eight numbers are filled. */
+static void hold_header(void) {
+    float plain[24], lines[24];
+    doorwhisp_answer answer = read_text("#?RGBE\n\n-Y 1 +X 2\nabc\x81" "def\x81", plain);
+    hold(answer.width == 2 && answer.height == 1 && answer.taken == 26, "the sizes and the count", 0);
+    hold(answer.colour == 0 && answer.exposure == 0 && answer.orientation == 0, "0 so far", 0);
+    read_text("#?RGBE\nEXPOSURE=4\nFORMAT=32-bit_rle_xyze\n\n-Y 1 +X 2\nabc\x81" "def\x81", lines);
+    hold(memcmp(plain, lines, 6 * sizeof *plain) == 0, "lines are passed over", 0);
+    answer = read_text("#?RGBE\n\n+X 2 -Y 1\nabc\x81" "def\x81", lines);
+    hold(answer.width == 2 && answer.height == 1, "the other axes", 0);
+    hold(memcmp(plain, lines, 6 * sizeof *plain) == 0, "the other axes, row by row", 0);
+    answer = read_text("#?RGBE\n\n-Y 2 +X 0\n", lines);
+    hold(answer.refusal == DOORWHISP_NO_WIDTH && answer.height == 0, "no values after a refusal", 0);
+}
+
+/* Whether three samples are written as these four bytes. */
+static int written_as(float r, float g, float b, const char *four) {
+    uint8_t bytes[4];
+    return doorwhisp_pixel_to_bytes(r, g, b, bytes) == 0 && memcmp(bytes, four, 4) == 0;
+}
+
+static void hold_writing(void) {
+    uint8_t bytes[4] = {1, 2, 3, 4};
+    doorwhisp_answer answer;
+    hold(written_as(-1.0f, NAN, 1.0f, "\0\0\x80\x81"), "negative samples and no numbers are 0", 0);
+    hold(written_as(1e-32f, 1e-32f, 1e-32f, "\0\0\0\0"), "1e-32 is black", 0);
+    hold(doorwhisp_pixel_to_bytes(INFINITY, 0.0f, 0.0f, bytes) == DOORWHISP_TOO_BRIGHT, "plus infinity is too bright", 0);
+    hold(memcmp(bytes, "\1\2\3\4", 4) == 0, "a refusal leaves the bytes", 0);
+    doorwhisp_worst(8, 2, &answer);
+    hold(answer.refusal == 0 && answer.width == 0 && answer.taken == 143, "a length is in taken", 0);
+}
+
+/* 10000 * major + 100 * minor + patch is the number of the version. */
+static void hold_version(void) {
+    int major, minor, patch;
+    hold(sscanf(DOORWHISP_VERSION, "%d.%d.%d", &major, &minor, &patch) == 3, "three numbers", 0);
+    hold(10000 * major + 100 * minor + patch == DOORWHISP_VERSION_NUMBER, "the version as a number", 0);
+}
+
+int main(void) {
+    hold_words();
+    hold_exponents();
+    hold_cuts();
+    hold_header();
+    hold_writing();
+    hold_version();
+    return status;
+}
