@@ -1,7 +1,13 @@
 //! Reading.
 
-use crate::face::{self, Head};
+use crate::face::{self, Head, Refusal};
+use crate::memory::zeros;
 use crate::HdrError;
+use std::borrow::Cow;
+use std::io::Read;
+
+/// The largest limit that counts.
+const LARGEST: usize = 65_535;
 
 /// The largest width and height that are read.
 #[derive(Clone, Copy, Debug, PartialEq, Eq)]
@@ -14,8 +20,8 @@ impl Default for DecoderOptions {
     /// 65,535 for both, the largest limit that counts.
     fn default() -> Self {
         DecoderOptions {
-            max_width: 65_535,
-            max_height: 65_535,
+            max_width: LARGEST,
+            max_height: LARGEST,
         }
     }
 }
@@ -58,9 +64,38 @@ impl DecoderOptions {
 /// ```
 #[derive(Clone, Debug)]
 pub struct HdrDecoder<'a> {
-    bytes: &'a [u8],
+    bytes: Cow<'a, [u8]>,
     options: DecoderOptions,
     head: Option<Head>,
+}
+
+impl HdrDecoder<'static> {
+    /// A decoder of all that a reader gives until its end, with no limits but 65,535. It is kept in memory: lend
+    /// `reader.take(n)` where there may be too much of it.
+    ///
+    /// ```no_run
+    /// use doorwhisp::HdrDecoder;
+    ///
+    /// let samples = HdrDecoder::from_reader(std::fs::File::open("dusk.hdr")?)?.decode()?;
+    /// # Ok::<(), doorwhisp::HdrError>(())
+    /// ```
+    pub fn from_reader<R: Read>(reader: R) -> Result<Self, HdrError> {
+        Self::from_reader_with_options(reader, DecoderOptions::default())
+    }
+
+    /// The same with limits.
+    pub fn from_reader_with_options<R: Read>(
+        mut reader: R,
+        options: DecoderOptions,
+    ) -> Result<Self, HdrError> {
+        let mut bytes = Vec::new();
+        reader.read_to_end(&mut bytes)?;
+        Ok(HdrDecoder {
+            bytes: Cow::Owned(bytes),
+            options,
+            head: None,
+        })
+    }
 }
 
 impl<'a> HdrDecoder<'a> {
@@ -75,7 +110,7 @@ impl<'a> HdrDecoder<'a> {
         options: DecoderOptions,
     ) -> Self {
         HdrDecoder {
-            bytes: bytes.as_ref(),
+            bytes: Cow::Borrowed(bytes.as_ref()),
             options,
             head: None,
         }
@@ -83,10 +118,12 @@ impl<'a> HdrDecoder<'a> {
 
     /// Reads the header, unless it was read.
     pub fn decode_headers(&mut self) -> Result<(), HdrError> {
-        self.head().map(|_| ())
+        self.head = Some(self.read_header()?);
+        Ok(())
     }
 
-    fn head(&mut self) -> Result<Head, HdrError> {
+    /// The header that was read, or that is read now.
+    fn read_header(&self) -> Result<Head, HdrError> {
         if let Some(head) = self.head {
             return Ok(head);
         }
@@ -94,9 +131,20 @@ impl<'a> HdrDecoder<'a> {
             max_width,
             max_height,
         } = self.options;
-        let head = face::read_header(self.bytes, max_width, max_height)?;
-        self.head = Some(head);
-        Ok(head)
+        face::read_header(&self.bytes, max_width, max_height).map_err(
+            |Refusal { number, .. }| match number {
+                1 => HdrError::FirstLine,
+                2 => HdrError::Axes,
+                3 => HdrError::Size,
+                4 => HdrError::TooHigh {
+                    limit: max_height.min(LARGEST),
+                },
+                5 => HdrError::TooWide {
+                    limit: max_width.min(LARGEST),
+                },
+                _ => unreachable!("a header is not refused by {number}"),
+            },
+        )
     }
 
     /// Width and height, once the header was read.
@@ -120,28 +168,60 @@ impl<'a> HdrDecoder<'a> {
         self.head.map(|head| 4 * head.width)
     }
 
-    /// The samples, three to a pixel, row by row from the top. Memory for all of them is asked for first: set limits
-    /// for files that may say any size.
+    /// The samples, three to a pixel, row by row from the top.
+    ///
+    /// Memory for all of them is asked for first, and where it cannot be had, that is the error; so is
+    /// [`TooFewBytes`](HdrError::TooFewBytes), before any is asked for, where the file cannot hold its rows. A file of
+    /// 800 KB can still say 65,535 by 65,535 and hold it, 51 GB of samples: set limits for files that are not your own.
     pub fn decode(&mut self) -> Result<Vec<f32>, HdrError> {
-        let head = self.head()?;
-        let mut samples = vec![0.0; 3 * head.width * head.height];
+        self.decode_headers()?;
+        let head = self.read_header()?;
+        let (found, least) = (self.bytes.len() - head.taken, least_bytes(head));
+        if found < least {
+            return Err(HdrError::TooFewBytes { found, least });
+        }
+        let mut samples = zeros(3 * head.width * head.height)?;
         self.decode_into(&mut samples)?;
         Ok(samples)
     }
 
     /// Reads the samples into the start of the buffer, and answers how many bytes the file took.
     pub fn decode_into(&mut self, buffer: &mut [f32]) -> Result<usize, HdrError> {
-        let mut store = vec![0; 4 * self.head()?.width];
+        self.decode_headers()?;
+        let mut store = zeros(4 * self.read_header()?.width)?;
         self.decode_with(buffer, &mut store)
     }
 
     /// The same by way of a row store that is lent, so that no memory is asked for.
     pub fn decode_with(&self, buffer: &mut [f32], store: &mut [u8]) -> Result<usize, HdrError> {
+        let Head { width, height, .. } = self.read_header()?;
         let DecoderOptions {
             max_width,
             max_height,
         } = self.options;
-        let head = face::read(self.bytes, max_width, max_height, buffer, store)?;
-        Ok(head.taken)
+        let read = face::read(&self.bytes, max_width, max_height, buffer, store);
+        read.map(|head| head.taken)
+            .map_err(|Refusal { number, place }| match number {
+                6 => HdrError::ShortOutput {
+                    found: buffer.len(),
+                    wanted: 3 * width * height,
+                },
+                7 => HdrError::NoWidth,
+                8 => HdrError::ShortStore {
+                    found: store.len(),
+                    wanted: 4 * width,
+                },
+                9 => HdrError::BytesEnd { row: place },
+                _ => unreachable!("a file with a sound header is not refused by {number}"),
+            })
+    }
+}
+
+/// How many bytes the rows of a picture take at least; `docs/DECISIONS.md` says why.
+fn least_bytes(head: Head) -> usize {
+    let rows = 4 * head.width.min(3) * head.height;
+    match head.width {
+        8..=127 => rows.saturating_sub(1),
+        _ => rows,
     }
 }

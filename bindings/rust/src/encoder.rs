@@ -1,7 +1,9 @@
 //! Writing.
 
-use crate::face;
+use crate::face::{self, Refusal};
+use crate::memory::zeros;
 use crate::HdrError;
+use std::io::Write;
 
 /// The width and the height of a frame.
 #[derive(Clone, Copy, Debug, PartialEq, Eq)]
@@ -75,47 +77,86 @@ impl<'a> HdrEncoder<'a> {
 
     /// The length that no file of that width and height passes.
     pub fn worst_size(&self) -> Result<usize, HdrError> {
-        face::worst(self.options.width, self.options.height)
+        let EncoderOptions { width, height } = self.options;
+        face::worst(width, height).map_err(|refusal| self.refused(refusal))
     }
 
     /// How long the file is, to the byte.
     pub fn exact_size(&self) -> Result<usize, HdrError> {
         let EncoderOptions { width, height } = self.options;
-        match self.frame {
+        let length = match self.frame {
             Frame::Samples(samples) => face::samples_length(width, height, samples),
             Frame::Pixels(pixels) => face::pixels_length(width, height, pixels),
+        };
+        length.map_err(|refusal| self.refused(refusal))
+    }
+
+    /// How many numbers the frame has, and how many its sizes ask for.
+    fn lengths(&self) -> (usize, usize) {
+        let EncoderOptions { width, height } = self.options;
+        let (found, to_a_pixel) = match self.frame {
+            Frame::Samples(samples) => (samples.len(), 3),
+            Frame::Pixels(pixels) => (pixels.len(), 4),
+        };
+        (found, to_a_pixel * width * height)
+    }
+
+    /// What the number of a refusal means here, but for 13.
+    fn refused(&self, Refusal { number, place }: Refusal) -> HdrError {
+        let EncoderOptions { width, height } = self.options;
+        match number {
+            7 => HdrError::NoWidth,
+            10 => HdrError::OverLimit { width, height },
+            11 => {
+                let (found, wanted) = self.lengths();
+                HdrError::WrongLength { found, wanted }
+            }
+            12 => HdrError::TooBright { pixel: place },
+            _ => unreachable!("a frame is not refused by {number}"),
         }
     }
 
-    /// How many whole pixels the frame has.
-    fn pixels(&self) -> usize {
-        match self.frame {
-            Frame::Samples(samples) => samples.len() / 3,
-            Frame::Pixels(pixels) => pixels.len() / 4,
-        }
-    }
-
-    /// Adds the file to the end of a vector, and answers its length. A refusal leaves the vector as it was.
+    /// Writes the file to a writer and flushes it, and answers the file's length. A refusal writes nothing.
     ///
-    /// Room for the worst length is asked for, so that the length is not counted first; a frame that does not have the
-    /// pixels of its sizes is refused without any.
-    pub fn encode(&self, out: &mut Vec<u8>) -> Result<usize, HdrError> {
-        let start = out.len();
+    /// The file is made in memory first, as by [`encode_to_vec`](Self::encode_to_vec), so that the stack that is said
+    /// there is needed.
+    pub fn encode<W: Write>(&self, mut out: W) -> Result<usize, HdrError> {
+        let file = self.encode_to_vec()?;
+        out.write_all(&file)?;
+        out.flush()?;
+        Ok(file.len())
+    }
+
+    /// The file as a vector.
+    ///
+    /// Memory for the worst length is asked for, so that the length is not counted first; a frame that does not have
+    /// the numbers that its sizes ask for is refused without any.
+    ///
+    /// Of samples, this and [`encode_into`](Self::encode_into) and [`exact_size`](Self::exact_size) hold a row of
+    /// 131,072 bytes on the stack: a thread that calls them needs a stack of 160 KiB. The main thread and those of
+    /// `std::thread` have far more.
+    pub fn encode_to_vec(&self) -> Result<Vec<u8>, HdrError> {
         let worst = self.worst_size()?;
-        if self.pixels() == self.options.width * self.options.height {
-            out.resize(start + worst, 0);
-        }
-        let written = self.encode_into(&mut out[start..]);
-        out.truncate(start + written.unwrap_or(0));
-        written
+        let (found, wanted) = self.lengths();
+        let mut file = zeros(if found == wanted { worst } else { 0 })?;
+        let length = self.encode_into(&mut file)?;
+        file.truncate(length);
+        Ok(file)
     }
 
     /// Writes the file to the start of a buffer, and answers its length.
     pub fn encode_into(&self, out: &mut [u8]) -> Result<usize, HdrError> {
         let EncoderOptions { width, height } = self.options;
-        match self.frame {
+        let written = match self.frame {
             Frame::Samples(samples) => face::write_samples(width, height, samples, out),
             Frame::Pixels(pixels) => face::write_pixels(width, height, pixels, out),
-        }
+        };
+        written.or_else(|refusal| match refusal.number {
+            13 => Err(HdrError::NoRoom {
+                found: out.len(),
+                wanted: self.exact_size()?,
+            }),
+            _ => Err(self.refused(refusal)),
+        })
     }
 }

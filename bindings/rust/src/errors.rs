@@ -1,9 +1,12 @@
-//! The refusals of document 01, by name.
+//! What goes wrong, by name.
 
-use std::fmt;
+use std::{error, fmt, io};
 
-/// Why a call refused. A refusal changes none of the memory that was lent, but for [`BytesEnd`](Self::BytesEnd).
-#[derive(Clone, Copy, Debug, PartialEq, Eq)]
+/// Why a call failed: by a refusal, which has a number, or for want of memory, or at a reader or writer
+/// that was lent. Where the call knows what it found and what it wanted, both are told.
+///
+/// A failure changes none of the memory that was lent, but for [`BytesEnd`](Self::BytesEnd).
+#[derive(Clone, Debug, PartialEq, Eq)]
 #[non_exhaustive]
 pub enum HdrError {
     /// 1: the first line is neither `#?RADIANCE` nor `#?RGBE`.
@@ -13,98 +16,119 @@ pub enum HdrError {
     /// 3: the height or the width is no number below 2^64.
     Size,
     /// 4: the height is over the limit.
-    TooHigh,
+    TooHigh { limit: usize },
     /// 5: the width is over the limit.
-    TooWide,
-    /// 6: the output is shorter than three samples to a pixel.
-    ShortOutput,
+    TooWide { limit: usize },
+    /// 6: the output has fewer samples than the picture, which has three to a pixel.
+    ShortOutput { found: usize, wanted: usize },
     /// 7: the width is 0.
     NoWidth,
-    /// 8: the row store is shorter than four bytes to a pixel of a row.
-    ShortStore,
+    /// 8: the row store has fewer bytes than a row, which has four to a pixel.
+    ShortStore { found: usize, wanted: usize },
     /// 9: the file ends within the row. The rows before it are in the output, the rest of the output is as it was lent.
     BytesEnd { row: usize },
+    /// 9 too, told before memory is asked for: the file ends within some row, since fewer bytes follow its header than
+    /// its rows take at least.
+    TooFewBytes { found: usize, least: usize },
     /// 10: the width or the height is over 65,535, which a file cannot be written in.
-    OverLimit,
+    OverLimit { width: usize, height: usize },
     /// 11: the frame has not three samples (or four bytes) to a pixel.
-    WrongLength,
+    WrongLength { found: usize, wanted: usize },
     /// 12: the pixel, counted row by row from 0, has a sample of 2^127 or more.
     TooBright { pixel: usize },
     /// 13: the file is longer than the output.
-    NoRoom,
+    NoRoom { found: usize, wanted: usize },
+    /// Memory for so many bytes cannot be had.
+    NoMemory { wanted: usize },
+    /// The reader or the writer that was lent failed: how, and in its own words.
+    Io { kind: io::ErrorKind, words: String },
 }
 
 impl HdrError {
-    /// The refusal of a number and a place, as the calls answer them.
-    pub(crate) fn numbered(number: u64, place: usize) -> Self {
-        match number {
-            1 => Self::FirstLine,
-            2 => Self::Axes,
-            3 => Self::Size,
-            4 => Self::TooHigh,
-            5 => Self::TooWide,
-            6 => Self::ShortOutput,
-            7 => Self::NoWidth,
-            8 => Self::ShortStore,
-            9 => Self::BytesEnd { row: place },
-            10 => Self::OverLimit,
-            11 => Self::WrongLength,
-            12 => Self::TooBright { pixel: place },
-            13 => Self::NoRoom,
-            _ => unreachable!("the archive refuses by {number}, which this crate does not know"),
-        }
-    }
-
-    /// The number in document 01, 1 to 13.
-    pub fn number(&self) -> u8 {
-        match self {
+    /// The number of the refusal, 1 to 13, if it is one.
+    pub fn number(&self) -> Option<u8> {
+        Some(match self {
             Self::FirstLine => 1,
             Self::Axes => 2,
             Self::Size => 3,
-            Self::TooHigh => 4,
-            Self::TooWide => 5,
-            Self::ShortOutput => 6,
+            Self::TooHigh { .. } => 4,
+            Self::TooWide { .. } => 5,
+            Self::ShortOutput { .. } => 6,
             Self::NoWidth => 7,
-            Self::ShortStore => 8,
-            Self::BytesEnd { .. } => 9,
-            Self::OverLimit => 10,
-            Self::WrongLength => 11,
+            Self::ShortStore { .. } => 8,
+            Self::BytesEnd { .. } | Self::TooFewBytes { .. } => 9,
+            Self::OverLimit { .. } => 10,
+            Self::WrongLength { .. } => 11,
             Self::TooBright { .. } => 12,
-            Self::NoRoom => 13,
-        }
+            Self::NoRoom { .. } => 13,
+            Self::NoMemory { .. } | Self::Io { .. } => return None,
+        })
     }
 
-    /// The row or the pixel that is meant, from 0; 0 where none is.
-    pub fn place(&self) -> usize {
+    /// The row or the pixel that is named, from 0, if one is.
+    pub fn place(&self) -> Option<usize> {
         match *self {
-            Self::BytesEnd { row } => row,
-            Self::TooBright { pixel } => pixel,
-            _ => 0,
+            Self::BytesEnd { row } => Some(row),
+            Self::TooBright { pixel } => Some(pixel),
+            _ => None,
         }
     }
 }
 
 impl fmt::Display for HdrError {
     fn fmt(&self, f: &mut fmt::Formatter<'_>) -> fmt::Result {
-        write!(f, "refusal {}: ", self.number())?;
-        f.write_str(match *self {
-            Self::FirstLine => "this is no Radiance file, its first line is wrong",
-            Self::Axes => "the picture is turned in a way that is not read",
-            Self::Size => "the file does not say its height and width in numbers",
-            Self::TooHigh => "the picture is higher than the limit",
-            Self::TooWide => "the picture is wider than the limit",
-            Self::ShortOutput => "the output is too short for the picture",
-            Self::NoWidth => "the picture has no width",
-            Self::ShortStore => "the row store is too short for a row",
-            Self::BytesEnd { row } => return write!(f, "the file ends in row {row}"),
-            Self::OverLimit => "the picture is over 65,535 wide or high",
-            Self::WrongLength => "the frame does not have the length that its sizes ask for",
-            Self::TooBright { pixel } => {
-                return write!(f, "pixel {pixel} is too bright for the format")
+        if let Some(number) = self.number() {
+            write!(f, "refusal {number}: ")?;
+        }
+        match self {
+            Self::FirstLine => write!(f, "this is no Radiance file, its first line is wrong"),
+            Self::Axes => write!(f, "the picture is turned in a way that is not read"),
+            Self::Size => write!(f, "the file does not say its height and width in numbers"),
+            Self::TooHigh { limit } => write!(f, "the picture is higher than {limit}"),
+            Self::TooWide { limit } => write!(f, "the picture is wider than {limit}"),
+            Self::ShortOutput { found, wanted } => {
+                write!(f, "the picture has {wanted} samples, the output {found}")
             }
-            Self::NoRoom => "the output is too short for the file",
-        })
+            Self::NoWidth => write!(f, "the picture has no width"),
+            Self::ShortStore { found, wanted } => {
+                write!(f, "a row has {wanted} bytes, the row store {found}")
+            }
+            Self::BytesEnd { row } => write!(f, "the file ends in row {row}"),
+            Self::TooFewBytes { found, least } => {
+                write!(
+                    f,
+                    "the rows take {least} bytes at least, and {found} follow the header"
+                )
+            }
+            Self::OverLimit { width, height } => {
+                write!(
+                    f,
+                    "a picture of {width} by {height} is over 65535 wide or high"
+                )
+            }
+            Self::WrongLength { found, wanted } => {
+                write!(
+                    f,
+                    "the frame has {found} numbers, its sizes ask for {wanted}"
+                )
+            }
+            Self::TooBright { pixel } => write!(f, "pixel {pixel} is too bright for the format"),
+            Self::NoRoom { found, wanted } => {
+                write!(f, "the file has {wanted} bytes, the output {found}")
+            }
+            Self::NoMemory { wanted } => write!(f, "memory for {wanted} bytes cannot be had"),
+            Self::Io { words, .. } => f.write_str(words),
+        }
     }
 }
 
-impl std::error::Error for HdrError {}
+impl error::Error for HdrError {}
+
+impl From<io::Error> for HdrError {
+    fn from(error: io::Error) -> Self {
+        HdrError::Io {
+            kind: error.kind(),
+            words: error.to_string(),
+        }
+    }
+}

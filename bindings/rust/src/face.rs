@@ -53,8 +53,15 @@ pub struct Head {
     pub taken: usize,
 }
 
+/// The number of a refusal, and its row or pixel or 0.
+#[derive(Clone, Copy, Debug)]
+pub struct Refusal {
+    pub number: u64,
+    pub place: usize,
+}
+
 /// The sizes and the count, or the refusal.
-fn head(call: impl FnOnce(&mut Answer)) -> Result<Head, HdrError> {
+fn head(call: impl FnOnce(&mut Answer)) -> Result<Head, Refusal> {
     let mut answer = Answer::default();
     call(&mut answer);
     match answer.refusal {
@@ -63,12 +70,15 @@ fn head(call: impl FnOnce(&mut Answer)) -> Result<Head, HdrError> {
             height: answer.height as usize,
             taken: answer.taken as usize,
         }),
-        number => Err(HdrError::numbered(number, answer.place as usize)),
+        number => Err(Refusal {
+            number,
+            place: answer.place as usize,
+        }),
     }
 }
 
 /// The count alone, or the refusal.
-fn length(call: impl FnOnce(&mut Answer)) -> Result<usize, HdrError> {
+fn length(call: impl FnOnce(&mut Answer)) -> Result<usize, Refusal> {
     head(call).map(|head| head.taken)
 }
 
@@ -81,14 +91,14 @@ fn amount(call: impl FnOnce(&mut Answer)) -> Option<usize> {
 
 // Each slice below is handed over as its pointer, which is never null, and its length; the call keeps neither.
 
-pub fn read_header(bytes: &[u8], widest: usize, highest: usize) -> Result<Head, HdrError> {
+pub fn read_header(bytes: &[u8], widest: usize, highest: usize) -> Result<Head, Refusal> {
     head(|answer| unsafe {
         doorwhisp_read_header(bytes.as_ptr(), bytes.len(), widest, highest, answer)
     })
 }
 
 #[rustfmt::skip]
-pub fn read(bytes: &[u8], widest: usize, highest: usize, out: &mut [f32], store: &mut [u8]) -> Result<Head, HdrError> {
+pub fn read(bytes: &[u8], widest: usize, highest: usize, out: &mut [f32], store: &mut [u8]) -> Result<Head, Refusal> {
     head(|answer| unsafe {
         doorwhisp_read(
             bytes.as_ptr(), bytes.len(), widest, highest,
@@ -101,24 +111,24 @@ pub fn output_buffer_size(width: usize, height: usize) -> Option<usize> {
     amount(|answer| unsafe { doorwhisp_output_buffer_size(width, height, answer) })
 }
 
-pub fn samples_length(width: usize, height: usize, samples: &[f32]) -> Result<usize, HdrError> {
+pub fn samples_length(width: usize, height: usize, samples: &[f32]) -> Result<usize, Refusal> {
     length(|answer| unsafe {
         doorwhisp_length(width, height, samples.as_ptr(), samples.len(), answer)
     })
 }
 
-pub fn pixels_length(width: usize, height: usize, pixels: &[u8]) -> Result<usize, HdrError> {
+pub fn pixels_length(width: usize, height: usize, pixels: &[u8]) -> Result<usize, Refusal> {
     length(|answer| unsafe {
         doorwhisp_length4(width, height, pixels.as_ptr(), pixels.len(), answer)
     })
 }
 
-pub fn worst(width: usize, height: usize) -> Result<usize, HdrError> {
+pub fn worst(width: usize, height: usize) -> Result<usize, Refusal> {
     length(|answer| unsafe { doorwhisp_worst(width, height, answer) })
 }
 
 #[rustfmt::skip]
-pub fn write_samples(width: usize, height: usize, samples: &[f32], out: &mut [u8]) -> Result<usize, HdrError> {
+pub fn write_samples(width: usize, height: usize, samples: &[f32], out: &mut [u8]) -> Result<usize, Refusal> {
     length(|answer| unsafe {
         doorwhisp_write(
             width, height, samples.as_ptr(), samples.len(),
@@ -128,7 +138,7 @@ pub fn write_samples(width: usize, height: usize, samples: &[f32], out: &mut [u8
 }
 
 #[rustfmt::skip]
-pub fn write_pixels(width: usize, height: usize, pixels: &[u8], out: &mut [u8]) -> Result<usize, HdrError> {
+pub fn write_pixels(width: usize, height: usize, pixels: &[u8], out: &mut [u8]) -> Result<usize, Refusal> {
     length(|answer| unsafe {
         doorwhisp_write4(
             width, height, pixels.as_ptr(), pixels.len(),
@@ -153,6 +163,6 @@ pub fn pixel_to_bytes([r, g, b]: [f32; 3]) -> Result<[u8; 4], HdrError> {
     let mut bytes = [0; 4];
     match unsafe { doorwhisp_pixel_to_bytes(r, g, b, &mut bytes) } {
         0 => Ok(bytes),
-        number => Err(HdrError::numbered(number.into(), 0)),
+        _ => Err(HdrError::TooBright { pixel: 0 }),
     }
 }

@@ -4,13 +4,36 @@
 //! samples are `f32`, three to a pixel, row by row from the top.
 //!
 //! - No call keeps what it is lent, none has state, and threads need no lock.
-//! - Encoding uses 131,072 bytes of stack.
-//! - A refusal is an [`HdrError`] with its number in document 01 and, where there is one, its row or pixel.
+//! - Encoding samples uses 131,072 bytes of stack and a little more.
+//! - What fails is an [`HdrError`], with the number of the refusal and, where there is one, its row or pixel.
+//!
+//! # What is read
+//!
+//! The reading is that of zune-hdr 0.5.2, and not always that of the Radiance documents:
+//!
+//! - Light is as the document has it at the exponent bytes 97 to 159, and 0 is black. At 1 to 96 it is shown too bright,
+//!   at 160 to 255 too dark, by 2^32 or a power of it.
+//! - Of the cuts in a row, those among the bytes of the file's last count are not refused: where the last row is coded
+//!   and the file ends after its last count, the exponent bytes that are missing, 128 at most, are read as 0, and those
+//!   pixels are black. Every other cut in a row is refusal 9.
+//! - `+X w -Y h` is read row by row, as `-Y h +X w` is, though by the document it lies column by column.
+//! - Header lines are passed over. `EXPOSURE` is not applied, and `FORMAT` is not looked at: samples of a file that
+//!   states `32-bit_rle_xyze` are X, Y and Z.
+//! - Old runs (pixels 1, 1, 1, n in flat rows) go by zune-hdr's way, which gives other pixels than the document's.
+//! - The format has no checksum: damage that leaves enough bytes is read as some other picture.
+//!
+//! # What is written
+//!
+//! A negative sample and one that is no number are written as 0, and a pixel whose largest sample is not above 1e-32 as
+//! black; 2^127 and more, plus infinity too, is refusal 12. Each sample is rounded down, by less than one step of its
+//! pixel. What is written is read back so where each pixel's largest sample is 0 or from 2^-32 to below 2^31; darker
+//! pixels come back too bright and brighter ones too dark.
 
 mod decoder;
 mod encoder;
 mod errors;
 mod face;
+mod memory;
 
 pub use decoder::{DecoderOptions, HdrDecoder};
 pub use encoder::{EncoderOptions, HdrEncoder};

@@ -95,13 +95,17 @@ fn a_file_is_refused_by_number() {
     assert_eq!(refusal("P6\n\n-Y 1 +X 1\n"), HdrError::FirstLine);
     assert_eq!(refusal("#?RGBE\n\n+Y 1 +X 1\n"), HdrError::Axes);
     assert_eq!(refusal("#?RGBE\n\n-Y -1 +X 1\n"), HdrError::Size);
-    assert_eq!(refusal("#?RGBE\n\n-Y 65536 +X 65536\n"), HdrError::TooHigh);
-    assert_eq!(refusal("#?RGBE\n\n-Y 1 +X 65536\n"), HdrError::TooWide);
-    assert_eq!(refusal("#?RGBE\n\n-Y 1 +X 0\n"), HdrError::NoWidth);
     assert_eq!(
-        refusal("#?RGBE\n\n-Y 1 +X 1\n123"),
-        HdrError::BytesEnd { row: 0 }
+        refusal("#?RGBE\n\n-Y 65536 +X 65536\n"),
+        HdrError::TooHigh { limit: 65_535 }
     );
+    assert_eq!(
+        refusal("#?RGBE\n\n-Y 1 +X 65536\n"),
+        HdrError::TooWide { limit: 65_535 }
+    );
+    assert_eq!(refusal("#?RGBE\n\n-Y 1 +X 0\n"), HdrError::NoWidth);
+    let short = HdrDecoder::new("#?RGBE\n\n-Y 1 +X 1\n123").decode_into(&mut [0.0; 3]);
+    assert_eq!(short, Err(HdrError::BytesEnd { row: 0 }));
 }
 
 #[test]
@@ -112,12 +116,12 @@ fn limits_are_kept() {
             .set_max_height(height);
         let mut decoder = HdrDecoder::new_with_options(TWO_ROWS, options);
         let read = decoder.decode_with(&mut [0.0; 48], &mut [0; 32]);
-        assert_eq!(decoder.decode_headers(), read.map(|_| ()));
+        assert_eq!(decoder.decode_headers(), read.clone().map(|_| ()));
         read
     };
     assert_eq!(limited(8, 2), Ok(76));
-    assert_eq!(limited(8, 1), Err(HdrError::TooHigh));
-    assert_eq!(limited(7, 2), Err(HdrError::TooWide));
+    assert_eq!(limited(8, 1), Err(HdrError::TooHigh { limit: 1 }));
+    assert_eq!(limited(7, 2), Err(HdrError::TooWide { limit: 7 }));
 }
 
 #[test]
@@ -125,10 +129,12 @@ fn memory_that_is_too_short_is_left_as_it_was_lent() {
     let mut out = [7.0; 48];
     let mut store = [5; 32];
     let decoder = HdrDecoder::new(TWO_ROWS);
+    let (found, wanted) = (47, 48);
     let short_output = decoder.decode_with(&mut out[..47], &mut store);
-    assert_eq!(short_output, Err(HdrError::ShortOutput));
+    assert_eq!(short_output, Err(HdrError::ShortOutput { found, wanted }));
+    let (found, wanted) = (31, 32);
     let short_store = decoder.decode_with(&mut out, &mut store[..31]);
-    assert_eq!(short_store, Err(HdrError::ShortStore));
+    assert_eq!(short_store, Err(HdrError::ShortStore { found, wanted }));
     assert_eq!(out, [7.0; 48]);
     assert_eq!(store, [5; 32]);
 }
@@ -153,7 +159,8 @@ fn a_flat_frame_is_written_byte_by_byte() {
     assert_eq!(encoder.encode(&mut file), Ok(71));
     assert_eq!(file, expected);
     assert_eq!(encoder.encode(&mut file), Ok(71));
-    assert_eq!(file, [expected.clone(), expected].concat());
+    assert_eq!(file, [expected.clone(), expected.clone()].concat());
+    assert_eq!(encoder.encode_to_vec(), Ok(expected));
 }
 
 #[test]
@@ -198,7 +205,9 @@ fn the_worst_file_passes_the_guess() {
     assert_eq!(encoder.worst_size(), Ok(61 + 3 + 1 + 120 * (4 + 4 * 9)));
     assert_eq!(encoder.exact_size(), Ok(4865));
     assert_eq!(encoder.encode_into(&mut [0; 4865]), Ok(4865));
-    assert_eq!(encoder.encode_into(&mut [0; 4864]), Err(HdrError::NoRoom));
+    let (found, wanted) = (4864, 4865);
+    let short = encoder.encode_into(&mut [0; 4864]);
+    assert_eq!(short, Err(HdrError::NoRoom { found, wanted }));
 }
 
 #[test]
@@ -209,15 +218,24 @@ fn a_frame_is_refused_by_number_and_the_output_is_left() {
         let answer = encoder.encode_into(&mut out);
         assert_eq!(out, [77; 70]);
         let mut file = vec![1, 2];
-        if answer != Err(HdrError::NoRoom) {
-            assert_eq!(encoder.encode(&mut file), answer);
+        let refusal = answer.unwrap_err();
+        if refusal.number() != Some(13) {
+            assert_eq!(encoder.encode(&mut file), Err(refusal.clone()));
             assert_eq!(file, [1, 2]);
         }
-        answer.unwrap_err()
+        refusal
     };
     assert_eq!(frame(&[], 0, 65_536), HdrError::NoWidth);
-    assert_eq!(frame(&[], 65_536, 1), HdrError::OverLimit);
-    assert_eq!(frame(&[0.0; 4], 1, 1), HdrError::WrongLength);
+    let (width, height) = (65_536, 1);
+    assert_eq!(
+        frame(&[], width, height),
+        HdrError::OverLimit { width, height }
+    );
+    let (found, wanted) = (4, 3);
+    assert_eq!(
+        frame(&[0.0; 4], 1, 1),
+        HdrError::WrongLength { found, wanted }
+    );
     let bright = [
         0.0,
         0.0,
@@ -230,18 +248,22 @@ fn a_frame_is_refused_by_number_and_the_output_is_left() {
         0.0,
     ];
     assert_eq!(frame(&bright, 1, 3), HdrError::TooBright { pixel: 1 });
-    assert_eq!(frame(&[0.0; 6], 2, 1), HdrError::NoRoom);
+    let (found, wanted) = (70, 71);
+    assert_eq!(frame(&[0.0; 6], 2, 1), HdrError::NoRoom { found, wanted });
 }
 
 #[test]
 fn a_frame_of_four_byte_pixels_is_refused_by_number() {
     let encoder = HdrEncoder::new_from_rgbe(&[9; 12], EncoderOptions::new(3, 1));
-    assert_eq!(encoder.encode_into(&mut [0; 74]), Err(HdrError::NoRoom));
+    let (found, wanted) = (74, 75);
+    let short = encoder.encode_into(&mut [0; 74]);
+    assert_eq!(short, Err(HdrError::NoRoom { found, wanted }));
     assert_eq!(encoder.encode_into(&mut [0; 75]), Ok(75));
     let encoder = HdrEncoder::new_from_rgbe(&[9; 12], EncoderOptions::new(4, 1));
-    assert_eq!(encoder.exact_size(), Err(HdrError::WrongLength));
-    let out = encoder.encode_into(&mut [0; 100]);
-    assert_eq!(out, Err(HdrError::WrongLength));
+    let (found, wanted) = (12, 16);
+    let wrong = Err(HdrError::WrongLength { found, wanted });
+    assert_eq!(encoder.exact_size(), wrong);
+    assert_eq!(encoder.encode_into(&mut [0; 100]), wrong);
 }
 
 #[test]
@@ -270,30 +292,36 @@ fn one_pixel_goes_to_bytes_and_back() {
 
 #[test]
 fn refusals_have_numbers_places_and_words() {
+    let (found, wanted, width, height) = (5, 6, 65_536, 2);
     let in_order = [
         HdrError::FirstLine,
         HdrError::Axes,
         HdrError::Size,
-        HdrError::TooHigh,
-        HdrError::TooWide,
-        HdrError::ShortOutput,
+        HdrError::TooHigh { limit: 7 },
+        HdrError::TooWide { limit: 8 },
+        HdrError::ShortOutput { found, wanted },
         HdrError::NoWidth,
-        HdrError::ShortStore,
+        HdrError::ShortStore { found, wanted },
         HdrError::BytesEnd { row: 3 },
-        HdrError::OverLimit,
-        HdrError::WrongLength,
+        HdrError::OverLimit { width, height },
+        HdrError::WrongLength { found, wanted },
         HdrError::TooBright { pixel: 4 },
-        HdrError::NoRoom,
+        HdrError::NoRoom { found, wanted },
     ];
-    let places = [0, 0, 0, 0, 0, 0, 0, 0, 3, 0, 0, 4, 0];
     for (i, error) in in_order.iter().enumerate() {
-        assert_eq!(usize::from(error.number()), i + 1);
-        assert_eq!(error.place(), places[i]);
+        assert_eq!(error.number().map(usize::from), Some(i + 1));
+        let place = [(9, 3), (12, 4)].iter().find(|pair| pair.0 == i + 1);
+        assert_eq!(error.place(), place.map(|pair| pair.1));
         let start = format!("refusal {}: ", i + 1);
         assert!(error.to_string().starts_with(&start));
     }
     let words = in_order[8].to_string();
     assert_eq!(words, "refusal 9: the file ends in row 3");
+    let words = in_order[12].to_string();
+    assert_eq!(words, "refusal 13: the file has 6 bytes, the output 5");
+    let none = HdrError::NoMemory { wanted };
+    assert_eq!((none.number(), none.place()), (None, None));
+    assert_eq!(none.to_string(), "memory for 6 bytes cannot be had");
 }
 
 #[test]
