@@ -6,7 +6,8 @@ use lib.Ieee.{Float}
 use Rattle.steps.specs.Amount.{amountOf}
 use Rattle.pixel.specs.Rgbe.{crateUnits, pixelOf, packedOf}
 use Rattle.header.specs.Head.{headerOf}
-use Rattle.reader.specs.Read.{crateRow, cratePixel, readBy}
+use Rattle.rows.specs.Row.{crateRow}
+use Rattle.reader.specs.Read.{cratePixel, readBy}
 use Rattle.writer.specs.Write.{lengthOf, length4Of, worstAnswer, writeOf, write4Of}
 use Rattle.numbers.specs.Numbers.{sizes, single, numbers, counted, withOne, withTwo}
 use Rattle.doorwhisp.specs.Pixels.{pixel, rgbe, samplesOf, packedInto}

@@ -214,10 +214,7 @@ pub(crate) fn next_row(
     let answer = row_in(bytes, v.at, end, goes_on(v, end), store, width);
     match answer {
         RowPart::Read { next } => Step::Row(moved_to(v, next)),
-        RowPart::Short => Step::Ended(Outcome::Refused(Refusal {
-            number: refusal::BYTES_END,
-            place: k,
-        })),
+        RowPart::Fault { number } => Step::Ended(Outcome::Refused(Refusal { number, place: k })),
         RowPart::Long => Step::Ended(Outcome::LongRow { row: k }),
     }
 }
