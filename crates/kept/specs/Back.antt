@@ -15,10 +15,12 @@ use Rattle.pixel.specs.Units.{plain}
 use Rattle.pixel.specs.Rgbe.{peak}
 use Rattle.loss.specs.Kept.{KeptAll, zeros}
 use Rattle.header.specs.declared.Head.{Head}
+use Rattle.header.specs.Head.{head}
 use Rattle.flat.specs.Flat.{isRepeat}
+use Rattle.rows.specs.Row.{RowRule, crateRow}
 use Rattle.runs.specs.Row.{isCoded}
-use Rattle.reader.specs.Samples.{rgbeAt}
-use Rattle.reader.specs.Read.{crateRow, cratePixel, readBy, paperOf, ReadPromise}
+use Rattle.reader.specs.Samples.{SampleRule, rgbeAt}
+use Rattle.reader.specs.Read.{cratePixel, readBy, paperOf, ReadPromiseBy}
 use Rattle.reader.specs.declared.ReadAnswer.{ReadAnswer}
 use Rattle.frames.specs.Samples.{pixelAt}
 use Rattle.frames.specs.Frame.{frameOf, fileOf}
@@ -72,7 +74,7 @@ step n = 2 ^ (n - 8)
 
 -- the reader is done, answers width and height, and takes so many bytes
 abbrev pub doneWith : ℕ → ℕ → ℕ → Answer Head
-doneWith w h taken = done (record { width = w; height = h; taken = taken })
+doneWith w h taken = done (head w h taken)
 
 -- beyond its first n samples the output is as lent
 pub record Beyond (n : ℕ) (lent out : List Float) : Type 0 where
@@ -89,52 +91,52 @@ pub record ReadBack (w h size : ℕ) (samples lent : List Float) (answer : Answe
   pub black : (k : ℕ) → k < w * h → peak (pixel samples k) ≡ 0 → pixel out k ≡ zeros
   pub beyond : Beyond (3 * (w * h)) lent out
 
--- the same for a frame of four-byte pixels, of which nothing is lost: each comes back as what its bytes stand for
-pub record ReadBack4 (w h size : ℕ) (px : List ℕ) (lent : List Float) (answer : Answer Head) (out : List Float) : Type 0 where
+-- the same for a frame of four-byte pixels, of which nothing is lost: each comes back as what its bytes stand for by the rule
+pub record ReadBack4 (rule : SampleRule) (w h size : ℕ) (px : List ℕ) (lent : List Float) (answer : Answer Head) (out : List Float) : Type 0 where
   pub answered : answer ≡ doneWith w h size
-  pub pixels : (k : ℕ) → k < w * h → pixel out k ≡ cratePixel (rgbeAt px (4 * k))
+  pub pixels : (k : ℕ) → k < w * h → pixel out k ≡ rule (rgbeAt px (4 * k))
   pub beyond : Beyond (3 * (w * h)) lent out
 
 -- where rows of w are flat, none of n pixels starts 1, 1, 1, which would be taken for a repeat
 abbrev pub NoOnes : List ℕ → ℕ → ℕ → Type 0
 NoOnes px w n = isCoded w ≡ false → (k : ℕ) → k < n → isRepeat px (4 * k) ≡ false
 
--- ---- The claims, over the definitions: the reader on the file that is written, with any bytes after it
+-- ---- The claims, over the definitions and by any rule for a row and for a pixel: the reader on the file that is written, with any bytes after it
 
-abbrev pub ComesBack : ℕ → ℕ → List Float → Type 0
-ComesBack w h samples =
+abbrev pub ComesBack : RowRule → SampleRule → ℕ → ℕ → List Float → Type 0
+ComesBack rowRule rule w h samples =
     (rest : List ℕ) (widest highest : ℕ) (out : List Float) (store : List ℕ) → Enough w h widest highest out store
-    → let left = readBy crateRow cratePixel (fileOf samples w h ++ rest) widest highest out store in
+    → let left = readBy rowRule rule (fileOf samples w h ++ rest) widest highest out store in
     ReadBack w h (length (fileOf samples w h)) samples out (left .0) (left .1)
 
-abbrev pub ComesBack4 : ℕ → ℕ → List ℕ → Type 0
-ComesBack4 w h px =
+abbrev pub ComesBack4 : RowRule → SampleRule → ℕ → ℕ → List ℕ → Type 0
+ComesBack4 rowRule rule w h px =
     (rest : List ℕ) (widest highest : ℕ) (out : List Float) (store : List ℕ) → Enough w h widest highest out store
-    → let left = readBy crateRow cratePixel (frameOf px w h ++ rest) widest highest out store in
-    ReadBack4 w h (length (frameOf px w h)) px out (left .0) (left .1)
+    → let left = readBy rowRule rule (frameOf px w h ++ rest) widest highest out store in
+    ReadBack4 rule w h (length (frameOf px w h)) px out (left .0) (left .1)
 
--- ---- The claims, over the calls: a call of the writer was done and left n bytes in its output, and the reader is called on them, with any bytes after
+-- ---- The claims, over the calls: a call of the writer was done and left n bytes in its output, and a reader by the rules is called on them, with any bytes after
 
-abbrev pub CallsComeBack : ℕ → ℕ → List Float → Type 0
-CallsComeBack w h samples =
+abbrev pub CallsComeBack : RowRule → SampleRule → ℕ → ℕ → List Float → Type 0
+CallsComeBack rowRule rule w h samples =
     (lent left : List ℕ) (n : ℕ) → WritePromise w h samples lent (Done n) left
     → (rest : List ℕ) (widest highest : ℕ) (out out′ : List Float) (store store′ : List ℕ) (answer : ReadAnswer) → Enough w h widest highest out store
-    → ReadPromise (take n left ++ rest) widest highest out store answer out′ store′
+    → ReadPromiseBy rowRule rule (take n left ++ rest) widest highest out store answer out′ store′
     → ReadBack w h n samples out (paperOf answer) out′
 
-abbrev pub CallsComeBack4 : ℕ → ℕ → List ℕ → Type 0
-CallsComeBack4 w h px =
+abbrev pub CallsComeBack4 : RowRule → SampleRule → ℕ → ℕ → List ℕ → Type 0
+CallsComeBack4 rowRule rule w h px =
     (lent left : List ℕ) (n : ℕ) → Write4Promise w h px lent (Done n) left
     → (rest : List ℕ) (widest highest : ℕ) (out out′ : List Float) (store store′ : List ℕ) (answer : ReadAnswer) → Enough w h widest highest out store
-    → ReadPromise (take n left ++ rest) widest highest out store answer out′ store′
-    → ReadBack4 w h n px out (paperOf answer) out′
+    → ReadPromiseBy rowRule rule (take n left ++ rest) widest highest out store answer out′ store′
+    → ReadBack4 rule w h n px out (paperOf answer) out′
 
 -- ---- A frame in range is written: into every output that is long enough
 
 abbrev pub IsWritten : ℕ → ℕ → List Float → Type 0
 IsWritten w h samples = (out : List ℕ) → length (fileOf samples w h) ≤ length out → writeOf w h samples out ≡ (done (length (fileOf samples w h)), spread 1 out 0 (fileOf samples w h))
 
--- ---- The range can be no wider: one red pixel of the f32 next below 2^-32, which is 2^-32 - 2^-56, and one of 2^31
+-- ---- By the crate reading the range can be no wider: one red pixel of the f32 next below 2^-32, which is 2^-32 - 2^-56, and one of 2^31
 
 abbrev pub nextBelow : Float
 nextBelow = fin false (2 ^ 24 - 1) (negsuc 55)
@@ -149,4 +151,4 @@ oneRed x = x ∷ fin false 0 (pos 0) ∷ fin false 0 (pos 0) ∷ []
 pub record Lost (x : Float) : Type 0 where
   pub numbers : Numbers (pixel (oneRed x) 0)
   pub outside : Between (peak (pixel (oneRed x) 0)) → ⊥
-  pub lost : ComesBack 1 1 (oneRed x) → ⊥
+  pub lost : ComesBack crateRow cratePixel 1 1 (oneRed x) → ⊥

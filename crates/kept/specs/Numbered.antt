@@ -6,18 +6,20 @@ use lib.Dec.{ltb}
 use lib.Ieee.{Float}
 use Rattle.steps.specs.Answer.{Check, check}
 use Rattle.header.specs.Head.{headChecks, fieldsOf, headOf}
-use Rattle.reader.specs.Frame.{cleared, rowsOf, endsEarly}
-use Rattle.reader.specs.Read.{frameChecks, crateRow, cratePixel}
+use Rattle.rows.specs.Row.{RowRule}
+use Rattle.reader.specs.Samples.{SampleRule}
+use Rattle.reader.specs.Frame.{storedOf, cleared, rowsOf, faultOf}
+use Rattle.reader.specs.Read.{frameChecks}
 use Rattle.frames.specs.Samples.{firstBright}
 use Rattle.frames.specs.Frame.{frameOf, fileOf}
 use Rattle.writer.specs.Write as writer
 
--- the reader: 1 to 8 before anything is written, and then 9
-unfoldable pub readChecks : List ℕ → ℕ → ℕ → List Float → List ℕ → List Check
-readChecks bytes widest highest out store =
+-- the reader, by any rule for a row and for a pixel: 1 to 8 before anything is written, and then the number of the first row at fault, 9 in the crate reading
+unfoldable pub readChecks : RowRule → SampleRule → List ℕ → ℕ → ℕ → List Float → List ℕ → List Check
+readChecks rowRule rule bytes widest highest out store =
     let head = headOf (fieldsOf bytes) in
-    let rows = rowsOf crateRow cratePixel bytes (head .width) (head .height) (head .taken) out (cleared (head .width) store) in
-    headChecks bytes widest highest ++ (frameChecks head out store ++ check 9 (endsEarly (rows .0)) ∷ [])
+    let rows = rowsOf rowRule rule bytes (storedOf head) (head .taken) out (cleared (storedOf head .long) store) in
+    headChecks bytes widest highest ++ (frameChecks head out store ++ faultOf (rows .0) ∷ [])
 
 -- the length of a frame of samples: 7, 10, 11, 12
 unfoldable pub lengthChecks : ℕ → ℕ → List Float → List Check

@@ -14,10 +14,12 @@ use Rattle.pixel.specs.declared.Packed.the-variants.{Bytes}
 use Rattle.pixel.specs.Rgbe.{crateUnits, pixelOf, packedOf}
 use Rattle.loss.specs.Document.{docUnits}
 use Rattle.header.specs.declared.Head.{Head}
+use Rattle.header.specs.Head.{head}
 use Rattle.words.specs.Lines.{rgbeLine, lineFeed, space}
 use Rattle.words.specs.Fields.{minusY, plusX}
 use Rattle.parts.specs.Channel.{code}
-use Rattle.reader.specs.Read.{crateRow, cratePixel, readBy}
+use Rattle.rows.specs.Row.{crateRow}
+use Rattle.reader.specs.Read.{cratePixel, readBy}
 
 -- ---- What a row of the table says
 
@@ -50,9 +52,6 @@ rgbe r g b e = record { r = r; g = g; b = b; e = e }
 
 abbrev pixel : Float → Float → Float → Pixel
 pixel r g b = record { r = r; g = g; b = b }
-
-abbrev head : ℕ → ℕ → ℕ → Head
-head width height taken = record { width = width; height = height; taken = taken }
 
 -- n, n times 2^k, and n times 2^-k for a k above 0; f32s are written with an odd n
 abbrev whole : ℕ → ℕ → Float

@@ -1,4 +1,4 @@
--- Demand 3, read back, for the whole frame, over the definitions of writer and reader.
+-- Demand 3, read back, for the whole frame, over the definitions of writer and reader, by any rule for a row and for a pixel that keeps what is asked of it.
 use Prim.Native.Nat.{ℕ, _+_, _-_, _*_, _<_, _≤_, zero-le}
 use mathlib.Core.Bool.{Bool, true, false, _&&_}
 use mathlib.Core.List.{List, _++_}
@@ -23,8 +23,11 @@ use Rattle.pixel.proofs.Laws.Digits.{size-gt}
 use Rattle.loss.proofs.Laws.Kept.{kept-at-a-pixel, black-back}
 use Rattle.loss.proofs.Laws.Written.{written-bytes}
 use Rattle.flat.specs.Flat.{isRepeat}
-use Rattle.reader.specs.Samples.{rgbeAt, samplesFrom}
-use Rattle.reader.specs.Read.{crateRow, cratePixel, readBy}
+use Rattle.rows.specs.Row.{RowRule, crateRow}
+use Rattle.back.proofs.Laws.Row.{RowsBack, crate-row-back}
+use Rattle.reader.specs.Samples.{SampleRule, rgbeAt}
+use Rattle.reader.specs.Inner.{samplesFrom}
+use Rattle.reader.specs.Read.{cratePixel, readBy}
 use Rattle.frames.specs.Samples.{pixelAt, packed}
 use Rattle.frames.specs.Frame.{fileOf}
 use Rattle.kept.specs.Back.{pixel, Sizes, AllInRange, Enough, Beyond, Lies, step, NoOnes, ComesBack, ComesBack4}
@@ -33,36 +36,36 @@ use Rattle.kept.proofs.Laws.Frame.{frame-back}
 
 -- ---- A frame of four-byte pixels
 
-module _ (w h : ℕ) (px : List ℕ) (lent out : List Float) (room : 3 * (w * h) ≤ length lent) (is : out ≡ spread 1 lent 0 (samplesFrom cratePixel px 0 (w * h))) where
+module _ (rule : SampleRule) (w h : ℕ) (px : List ℕ) (lent out : List Float) (room : 3 * (w * h) ≤ length lent) (is : out ≡ spread 1 lent 0 (samplesFrom rule px 0 (w * h))) where
   abbrev back : List Float
-  back = samplesFrom cratePixel px 0 (w * h)
+  back = samplesFrom rule px 0 (w * h)
 
   front : out ≡ back ++ drop (3 * (w * h)) lent
   front =
-      let size = length-samples cratePixel px 0 (w * h) in
+      let size = length-samples rule px 0 (w * h) in
       is ∙ spread-front lent back (omega arith) ∙ ap (λ (n : ℕ). back ++ drop n lent) size
 
-  pixels-there : (k : ℕ) → k < w * h → pixel out k ≡ cratePixel (rgbeAt px (4 * k))
+  pixels-there : (k : ℕ) → k < w * h → pixel out k ≡ rule (rgbeAt px (4 * k))
   pixels-there k l =
       let here : 0 + 4 * k ≡ 4 * k = omega arith in
-      ap (λ (o : List Float). pixel o k) front ∙ pixel-of-samples cratePixel px (drop (3 * (w * h)) lent) 0 (w * h) k l ∙ ap (λ (i : ℕ). cratePixel (rgbeAt px i)) here
+      ap (λ (o : List Float). pixel o k) front ∙ pixel-of-samples rule px (drop (3 * (w * h)) lent) 0 (w * h) k l ∙ ap (λ (i : ℕ). rule (rgbeAt px i)) here
 
   beyond-there : Beyond (3 * (w * h)) lent out
   beyond-there = record {
     long = ap length is ∙ length-spread 1 lent 0 back;
-    rest = ap (drop (3 * (w * h))) front ∙ drop-at back (drop (3 * (w * h)) lent) (3 * (w * h)) (length-samples cratePixel px 0 (w * h));
+    rest = ap (drop (3 * (w * h))) front ∙ drop-at back (drop (3 * (w * h)) lent) (3 * (w * h)) (length-samples rule px 0 (w * h));
   }
 
-pub read-back4 : (w h : ℕ) (px : List ℕ) → Sizes w h → NoOnes px w (w * h) → ComesBack4 w h px
-read-back4 w h px sizes none rest widest highest out store enough =
+pub read-back4-by : (rowRule : RowRule) (rule : SampleRule) → RowsBack rowRule → (w h : ℕ) (px : List ℕ) → Sizes w h → NoOnes px w (w * h) → ComesBack4 rowRule rule w h px
+read-back4-by rowRule rule rows w h px sizes none rest widest highest out store enough =
     let room : h * (3 * w) ≤ length out = rw (mul-left-comm, mul-comm h w) (enough .room) in
-    let both = frame-back px w h rest widest highest out store (sizes .some) (omega arith) (omega arith) room (enough .row)
+    let both = frame-back rowRule rule rows px w h rest widest highest out store (sizes .some) (omega arith) (omega arith) room (enough .row)
     (λ flat k l. ap (isRepeat px) (zero-add (4 * k)) ∙ none flat k (rw mul-comm l)) in
-    let is = both .1 ∙ ap (λ (n : ℕ). spread 1 out 0 (samplesFrom cratePixel px 0 n)) (mul-comm h w) in
+    let is = both .1 ∙ ap (λ (n : ℕ). spread 1 out 0 (samplesFrom rule px 0 n)) (mul-comm h w) in
     record {
       answered = both .0;
-      pixels = pixels-there w h px out _ (enough .room) is;
-      beyond = beyond-there w h px out _ (enough .room) is;
+      pixels = pixels-there rule w h px out _ (enough .room) is;
+      beyond = beyond-there rule w h px out _ (enough .room) is;
     }
 
 -- ---- No pixel that is packed is taken for a repeat: black is 0,0,0, and of any other one byte is at least 128
@@ -109,33 +112,50 @@ in-range samples n k all h =
     let s = all .numbers k h in
     record { r = s .r; g = s .g; b = s .b; largest = all .largest k h }
 
--- ---- Demand 3
+-- ---- What is asked of a rule for a pixel
 
-module _ (p q : Pixel) (is : q ≡ pixelOf crateUnits (bytesOf p)) where
-  kept-there : InRange p → (n : ℕ) → Lies p n → KeptAll (step n) p q
-  unfolding stepOf
-  kept-there range n lies =
-      subst (KeptAll (step n) p) (sym is)
-      (subst (λ (d : ℕ). KeptAll (step d) p (pixelOf crateUnits (bytesOf p))) (lies-size p n lies) (kept-at-a-pixel p range))
+-- each pixel in range comes back as the demand says, and a black one as zeros
+pub record PixelsBack (rule : SampleRule) : Type 0 where
+  pub kept : (p : Pixel) (n : ℕ) → InRange p → Lies p n → KeptAll (step n) p (rule (bytesOf p))
+  pub black : (p : Pixel) → peak p ≡ 0 → rule (bytesOf p) ≡ zeros
 
-  black-there : peak p ≡ 0 → q ≡ zeros
-  black-there e = is ∙ black-back p (subst (λ (v : ℕ). v ≤ dark) (sym e) zero-le)
+-- ---- Demand 3, by any rules of which that holds
 
--- each pixel comes back as what its four bytes stand for, in range or not
+module _ (rowRule : RowRule) (rule : SampleRule) (rows : RowsBack rowRule) where
+  -- each pixel comes back as what its four bytes stand for, in range or not
+  pub pixels-back-by : (w h : ℕ) (samples : List Float) → Sizes w h → (rest : List ℕ) (widest highest : ℕ) (out : List Float) (store : List ℕ) → Enough w h widest highest out store
+      → (k : ℕ) → k < w * h → pixel (readBy rowRule rule (fileOf samples w h ++ rest) widest highest out store .1) k ≡ rule (bytesOf (pixel samples k))
+  pixels-back-by w h samples sizes rest widest highest out store enough k l =
+      read-back4-by rowRule rule rows w h (packed samples 0 (w * h)) sizes (packed-no-ones samples w (w * h)) rest widest highest out store enough .pixels k l
+      ∙ ap rule (packed-bytes samples (w * h) k l)
+
+  pub read-back-by : PixelsBack rule → (w h : ℕ) (samples : List Float) → Sizes w h → AllInRange samples (w * h) → ComesBack rowRule rule w h samples
+  read-back-by pixels w h samples sizes all rest widest highest out store enough =
+      let back = read-back4-by rowRule rule rows w h (packed samples 0 (w * h)) sizes (packed-no-ones samples w (w * h)) rest widest highest out store enough in
+      let is = pixels-back-by w h samples sizes rest widest highest out store enough in
+      record {
+        answered = back .answered;
+        kept = λ k n l lies. subst (KeptAll (step n) (pixel samples k)) (sym (is k l)) (pixels .kept (pixel samples k) n (in-range samples (w * h) k all l) lies);
+        black = λ k l none. is k l ∙ pixels .black (pixel samples k) none;
+        beyond = back .beyond;
+      }
+
+-- ---- The crate reading
+
+pub crate-pixels : PixelsBack cratePixel
+unfolding cratePixel stepOf
+crate-pixels = record {
+  kept = λ p n range lies. subst (λ (d : ℕ). KeptAll (step d) p (pixelOf crateUnits (bytesOf p))) (lies-size p n lies) (kept-at-a-pixel p range);
+  black = λ p e. black-back p (subst (λ (v : ℕ). v ≤ dark) (sym e) zero-le);
+}
+
+pub read-back4 : (w h : ℕ) (px : List ℕ) → Sizes w h → NoOnes px w (w * h) → ComesBack4 crateRow cratePixel w h px
+read-back4 = read-back4-by crateRow cratePixel crate-row-back
+
 pub pixels-back : (w h : ℕ) (samples : List Float) → Sizes w h → (rest : List ℕ) (widest highest : ℕ) (out : List Float) (store : List ℕ) → Enough w h widest highest out store
     → (k : ℕ) → k < w * h → pixel (readBy crateRow cratePixel (fileOf samples w h ++ rest) widest highest out store .1) k ≡ pixelOf crateUnits (bytesOf (pixel samples k))
 unfolding cratePixel
-pixels-back w h samples sizes rest widest highest out store enough k l =
-    read-back4 w h (packed samples 0 (w * h)) sizes (packed-no-ones samples w (w * h)) rest widest highest out store enough .pixels k l
-    ∙ ap cratePixel (packed-bytes samples (w * h) k l)
+pixels-back = pixels-back-by crateRow cratePixel crate-row-back
 
-pub read-back : (w h : ℕ) (samples : List Float) → Sizes w h → AllInRange samples (w * h) → ComesBack w h samples
-read-back w h samples sizes all rest widest highest out store enough =
-    let back = read-back4 w h (packed samples 0 (w * h)) sizes (packed-no-ones samples w (w * h)) rest widest highest out store enough in
-    let is = pixels-back w h samples sizes rest widest highest out store enough in
-    record {
-      answered = back .answered;
-      kept = λ k n l lies. kept-there (pixel samples k) _ (is k l) (in-range samples (w * h) k all l) n lies;
-      black = λ k l. black-there (pixel samples k) _ (is k l);
-      beyond = back .beyond;
-    }
+pub read-back : (w h : ℕ) (samples : List Float) → Sizes w h → AllInRange samples (w * h) → ComesBack crateRow cratePixel w h samples
+read-back = read-back-by crateRow cratePixel crate-row-back crate-pixels

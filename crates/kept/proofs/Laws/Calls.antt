@@ -16,7 +16,10 @@ use Rattle.steps.proofs.Laws.Answer.{Passed}
 use Rattle.pixel.specs.Rgbe.{peak, tooBright}
 use Rattle.header.specs.declared.Head.{Head}
 use Rattle.parts.proofs.Laws.Cut.{lt-or-ge}
-use Rattle.reader.specs.Read.{crateRow, cratePixel, readBy, paperOf, ReadPromise}
+use Rattle.rows.specs.Row.{RowRule, crateRow}
+use Rattle.back.proofs.Laws.Row.{RowsBack, crate-row-back}
+use Rattle.reader.specs.Samples.{SampleRule}
+use Rattle.reader.specs.Read.{cratePixel, readBy, paperOf, ReadPromiseBy}
 use Rattle.reader.specs.declared.ReadAnswer.{ReadAnswer}
 use Rattle.frames.specs.Samples.{firstBright}
 use Rattle.frames.specs.Frame.{frameOf, fileOf}
@@ -24,7 +27,7 @@ use Rattle.writer.specs.Write.{frameChecks, brightChecked, stored, writeOf}
 use Rattle.frames.proofs.Laws.Samples.{first-named}
 use Rattle.writer.proofs.Laws.Told.{Stored, write-told, write4-told}
 use Rattle.kept.specs.Back.{pixel, Sizes, Between, AllInRange, NoOnes, ReadBack, ReadBack4, CallsComeBack, CallsComeBack4, IsWritten}
-use Rattle.kept.proofs.Laws.Back.{read-back, read-back4}
+use Rattle.kept.proofs.Laws.Back.{PixelsBack, crate-pixels, read-back-by, read-back4-by}
 
 -- ---- The sizes of a frame that was written
 
@@ -37,27 +40,36 @@ sizes-passed w h got each p =
     let both = neither (ltb 65535 w) (ltb 65535 h) (p .1 .0) in
     record { some = pos-of-ne-zero (eqb-false w 0 (p .0)); wide = ltb-false 65535 w (both .0); high = ltb-false 65535 h (both .1) }
 
--- ---- The reader on the bytes that the writer left: what holds of its definition on the file holds of the call
+-- ---- A reader on the bytes that the writer left: what holds of its definition on the file holds of the call
 
-module _ (file lent left : List ℕ) (n : ℕ) (wrote : Stored file lent n left) (rest : List ℕ) (widest highest : ℕ) (out out′ : List Float) (store store′ : List ℕ) (answer : ReadAnswer)
-    (read : ReadPromise (take n left ++ rest) widest highest out store answer out′ store′) where
-  by-calls : (P : ℕ → Answer Head × List Float × List ℕ → Type 0) → P (length file) (readBy crateRow cratePixel (file ++ rest) widest highest out store) → P n (paperOf answer, out′, store′)
-  by-calls P p =
-      let bytes : take n left ≡ file = ap (take n) (wrote .bytes) ∙ take-at file (drop n lent) n (sym (wrote .size)) in
-      subst (P n) (sym (read ∙ ap (λ (l : List ℕ). readBy crateRow cratePixel (l ++ rest) widest highest out store) bytes))
-      (subst (λ (m : ℕ). P m (readBy crateRow cratePixel (file ++ rest) widest highest out store)) (sym (wrote .size)) p)
+module _ (rowRule : RowRule) (rule : SampleRule) where
+  module _ (file lent left : List ℕ) (n : ℕ) (wrote : Stored file lent n left) (rest : List ℕ) (widest highest : ℕ) (out out′ : List Float) (store store′ : List ℕ) (answer : ReadAnswer)
+      (read : ReadPromiseBy rowRule rule (take n left ++ rest) widest highest out store answer out′ store′) where
+    by-calls : (P : ℕ → Answer Head × List Float × List ℕ → Type 0) → P (length file) (readBy rowRule rule (file ++ rest) widest highest out store) → P n (paperOf answer, out′, store′)
+    by-calls P p =
+        let bytes : take n left ≡ file = ap (take n) (wrote .bytes) ∙ take-at file (drop n lent) n (sym (wrote .size)) in
+        subst (P n) (sym (read ∙ ap (λ (l : List ℕ). readBy rowRule rule (l ++ rest) widest highest out store) bytes))
+        (subst (λ (m : ℕ). P m (readBy rowRule rule (file ++ rest) widest highest out store)) (sym (wrote .size)) p)
 
-pub calls-back : (w h : ℕ) (samples : List Float) → AllInRange samples (w * h) → CallsComeBack w h samples
-calls-back w h samples all lent left n wrote rest widest highest out out′ store store′ answer enough read =
-    let told = write-told w h n samples lent left (sym wrote) in
-    by-calls (fileOf samples w h) lent left n (told .2) rest widest highest out out′ store store′ answer read (λ m z. ReadBack w h m samples out (z .0) (z .1))
-    (read-back w h samples (sizes-passed w h (length samples) 3 (told .0)) all rest widest highest out store enough)
+  module _ (rows : RowsBack rowRule) where
+    pub calls-back-by : PixelsBack rule → (w h : ℕ) (samples : List Float) → AllInRange samples (w * h) → CallsComeBack rowRule rule w h samples
+    calls-back-by pixels w h samples all lent left n wrote rest widest highest out out′ store store′ answer enough read =
+        let told = write-told w h n samples lent left (sym wrote) in
+        by-calls (fileOf samples w h) lent left n (told .2) rest widest highest out out′ store store′ answer read (λ m z. ReadBack w h m samples out (z .0) (z .1))
+        (read-back-by rowRule rule rows pixels w h samples (sizes-passed w h (length samples) 3 (told .0)) all rest widest highest out store enough)
 
-pub calls-back4 : (w h : ℕ) (px : List ℕ) → NoOnes px w (w * h) → CallsComeBack4 w h px
-calls-back4 w h px none lent left n wrote rest widest highest out out′ store store′ answer enough read =
-    let told = write4-told w h n px lent left (sym wrote) in
-    by-calls (frameOf px w h) lent left n (told .2) rest widest highest out out′ store store′ answer read (λ m z. ReadBack4 w h m px out (z .0) (z .1))
-    (read-back4 w h px (sizes-passed w h (length px) 4 (told .0)) none rest widest highest out store enough)
+    pub calls-back4-by : (w h : ℕ) (px : List ℕ) → NoOnes px w (w * h) → CallsComeBack4 rowRule rule w h px
+    calls-back4-by w h px none lent left n wrote rest widest highest out out′ store store′ answer enough read =
+        let told = write4-told w h n px lent left (sym wrote) in
+        by-calls (frameOf px w h) lent left n (told .2) rest widest highest out out′ store store′ answer read (λ m z. ReadBack4 rule w h m px out (z .0) (z .1))
+        (read-back4-by rowRule rule rows w h px (sizes-passed w h (length px) 4 (told .0)) none rest widest highest out store enough)
+
+-- by the crate reading: `reader::read`
+pub calls-back : (w h : ℕ) (samples : List Float) → AllInRange samples (w * h) → CallsComeBack crateRow cratePixel w h samples
+calls-back = calls-back-by crateRow cratePixel crate-row-back crate-pixels
+
+pub calls-back4 : (w h : ℕ) (px : List ℕ) → NoOnes px w (w * h) → CallsComeBack4 crateRow cratePixel w h px
+calls-back4 = calls-back4-by crateRow cratePixel crate-row-back
 
 -- ---- A frame in range is written: no pixel of it is too bright
 

@@ -2,6 +2,7 @@
 use Prim.Native.Nat.{ℕ, _*_}
 use mathlib.Core.Bool.{Bool, true, false}
 use mathlib.Core.List.{List, [], _∷_, _++_}
+use mathlib.Core.Logic.{_⊎_, inl, inr}
 use mathlib.Core.Path.{_≡_, refl, sym, ap, _∙_}
 use lib.ListN.{length}
 use lib.Dec.{ltb}
@@ -12,8 +13,10 @@ use Rattle.steps.specs.Numbered.{numberOf, firstOf, Exactly}
 use Rattle.steps.proofs.Laws.Numbered.{number-checked, first-append, exactly, checked-of}
 use Rattle.header.specs.declared.Head.{Head}
 use Rattle.header.specs.Head.{headChecks, headerOf, fieldsOf, headOf}
-use Rattle.reader.specs.Frame.{cleared, rowsOf, endsEarly}
-use Rattle.reader.specs.Read.{frameChecks, answerOf, framed, crateRow, cratePixel, readBy}
+use Rattle.rows.specs.Row.{RowRule, crateRow}
+use Rattle.reader.specs.Samples.{SampleRule}
+use Rattle.reader.specs.Frame.{Stored, storedOf, cleared, rowsOf, faultOf}
+use Rattle.reader.specs.Read.{frameChecks, answerOf, framed, cratePixel, readBy}
 use Rattle.reader.proofs.Laws.Read.{rows-number}
 use Rattle.frames.specs.Samples.{firstBright}
 use Rattle.frames.specs.Frame.{frameOf, worstOf, fileOf}
@@ -26,35 +29,48 @@ pub header-numbered : (bytes : List ℕ) (widest highest : ℕ) → Exactly (hea
 unfolding headerOf
 header-numbered bytes widest highest = exactly (headChecks bytes widest highest) _ (number-checked (headChecks bytes widest highest) (done (headOf (fieldsOf bytes))))
 
--- `reader::read`: 1 to 9
-module _ (bytes : List ℕ) (widest highest : ℕ) (out : List Float) (store : List ℕ) where
+-- ---- The reader, by any rule for a row and for a pixel
+
+module _ (rowRule : RowRule) (rule : SampleRule) (bytes : List ℕ) (widest highest : ℕ) (out : List Float) (store : List ℕ) where
   head : Head
   head = headOf (fieldsOf bytes)
 
   rows : Answer ℕ × List Float × List ℕ
-  rows = rowsOf crateRow cratePixel bytes (head .width) (head .height) (head .taken) out (cleared (head .width) store)
+  rows = rowsOf rowRule rule bytes (storedOf head) (head .taken) out (cleared (storedOf head .long) store)
 
-  early : List Check
-  early = check 9 (endsEarly (rows .0)) ∷ []
-
-  same-number : (h : Head) (a : Answer ℕ) → numberOf (answerOf h a) ≡ numberOf a
+  -- the number of the rows is that of their check
+  same-number : (h : Head) (a : Answer ℕ) → numberOf (answerOf h a) ≡ firstOf (faultOf a ∷ []) 0
   same-number h (done n) = refl
   same-number h (refused n p) = refl
 
-  read-number : numberOf (readBy crateRow cratePixel bytes widest highest out store .0) ≡ firstOf (readChecks bytes widest highest out store) 0
-  unfolding readBy readChecks head rows early
+  read-number : numberOf (readBy rowRule rule bytes widest highest out store .0) ≡ firstOf (readChecks rowRule rule bytes widest highest out store) 0
+  unfolding readBy readChecks head rows
   read-number =
       let cs = headChecks bytes widest highest in
       let ds = frameChecks head out store in
       ap numberOf (checked-of (λ (z : Answer Head × List Float × List ℕ). z .0) (λ n. (refuse n, out, store)) (cs ++ ds) (framed head rows))
       ∙ number-checked (cs ++ ds) (answerOf head (rows .0))
       ∙ first-append cs ds _
-      ∙ ap (λ (n : ℕ). firstOf cs (firstOf ds n)) (same-number head (rows .0) ∙ rows-number bytes (head .width) (head .height) (head .taken) out (cleared (head .width) store))
-      ∙ ap (firstOf cs) (sym (first-append ds early 0))
-      ∙ sym (first-append cs (ds ++ early) 0)
+      ∙ ap (λ (n : ℕ). firstOf cs (firstOf ds n)) (same-number head (rows .0))
+      ∙ ap (firstOf cs) (sym (first-append ds (faultOf (rows .0) ∷ []) 0))
+      ∙ sym (first-append cs (ds ++ faultOf (rows .0) ∷ []) 0)
 
-  pub read-numbered : Exactly (readChecks bytes widest highest out store) (numberOf (readBy crateRow cratePixel bytes widest highest out store .0))
-  read-numbered = exactly (readChecks bytes widest highest out store) _ read-number
+  pub read-numbered-by : Exactly (readChecks rowRule rule bytes widest highest out store) (numberOf (readBy rowRule rule bytes widest highest out store .0))
+  read-numbered-by = exactly (readChecks rowRule rule bytes widest highest out store) _ read-number
+
+-- `reader::read`: 1 to 9
+pub read-numbered : (bytes : List ℕ) (widest highest : ℕ) (out : List Float) (store : List ℕ)
+    → Exactly (readChecks crateRow cratePixel bytes widest highest out store) (numberOf (readBy crateRow cratePixel bytes widest highest out store .0))
+read-numbered = read-numbered-by crateRow cratePixel
+
+-- since the check of the crate's rows is 9 where it fails
+pub fault-nine : (rule : SampleRule) (bytes : List ℕ) (stored : Stored) (at : ℕ) (out : List Float) (store : List ℕ)
+    → let fault = faultOf (rowsOf crateRow rule bytes stored at out store .0) in (fault ≡ check 0 false) ⊎ (fault ≡ check 9 true)
+fault-nine rule bytes stored at out store = by (rowsOf crateRow rule bytes stored at out store .0) (λ number row e. rows-number rule bytes stored at out store number row e)
+  where
+    by : (a : Answer ℕ) → ((number row : ℕ) → a ≡ refused number row → number ≡ 9) → (faultOf a ≡ check 0 false) ⊎ (faultOf a ≡ check 9 true)
+    by (done next) nine = inl refl
+    by (refused number row) nine = inr (ap (λ (n : ℕ). check n true) (nine number row refl))
 
 -- ---- The writer's calls
 

@@ -13,10 +13,10 @@ use Rattle.steps.specs.Place.{bytesFrom, spread}
 use Rattle.steps.proofs.Laws.Place.{drop-next}
 use Rattle.pixel.specs.declared.Rgbe.{Rgbe}
 use Rattle.steps.specs.declared.Taken.the-variants.{Done}
-use Rattle.flat.specs.Flat.{isRepeat, flatOf}
-use Rattle.rows.specs.Row.{isFlatWidth, isMark, rowOf}
+use Rattle.flat.specs.Flat.{FlatRule, isRepeat, crateFlat, flatOf}
+use Rattle.rows.specs.Row.{isFlatWidth, isMark, crateStart, crateRow}
 use Rattle.flat.proofs.Laws.Flat.{flat-starts}
-use Rattle.rows.proofs.Laws.Row.{narrow, not-narrow, mark-not, kind-flat, kind-pixel, row-by-width, row-flat, row-pixel}
+use Rattle.rows.proofs.Laws.Row.{narrow, not-narrow, mark-not, kind-flat, kind-pixel, early-other, early-two, start-flat, start-pixel, row-by-width, row-flat, row-pixel}
 use Rattle.parts.proofs.Laws.Channel.{and-no}
 use Rattle.back.proofs.Laws.Row.{NoRepeat, coded-width, flat-there}
 use Rattle.kept.specs.Radiance.{after, isOldRun, Meaning, meaning, onward, flatFrom, flat, flatBytes, NoOldRun}
@@ -67,18 +67,18 @@ no-repeat [] none i h = absurd (omega arith)
 no-repeat (q ∷ qs) none zero h = none .0
 no-repeat (q ∷ qs) none (suc i) h = repeat-behind (q .r) (q .g) (q .b) (q .e) (flatBytes qs) (0 + 4 * i) (0 + 4 * suc i) (omega arith) ∙ no-repeat qs (none .1) i (omega arith)
 
--- where such pixels stand, the flat part of the crate takes just them
-part-there : (src : List ℕ) (at : ℕ) (store : List ℕ) (start : ℕ) (qs : List Rgbe) (rest : List ℕ) → NoOldRun qs → drop at src ≡ flatBytes qs ++ rest
-    → (Done (at + 4 * length qs), spread 1 store start (flatBytes qs)) ≡ flatOf src at store start (length qs)
-part-there src at store start qs rest none e =
+-- where such pixels stand, a flat part takes just them, by any rule
+part-there : (rule : FlatRule) (src : List ℕ) (at : ℕ) (store : List ℕ) (start : ℕ) (qs : List Rgbe) (rest : List ℕ) → NoOldRun qs → drop at src ≡ flatBytes qs ++ rest
+    → (Done (at + 4 * length qs), spread 1 store start (flatBytes qs)) ≡ flatOf rule src at store start (length qs)
+part-there rule src at store start qs rest none e =
     let n : ℕ = length qs in
     let all : bytesFrom (flatBytes qs) 0 (4 * n) ≡ flatBytes qs = all-bytes (flatBytes qs) (4 * n) (length-flat qs) in
     ap (λ (l : List ℕ). (Done (at + 4 * n), spread 1 store start l)) (sym all)
-    ∙ flat-there (flatBytes qs) src 0 n start at start store rest _ (e ∙ ap (λ (l : List ℕ). l ++ rest) (sym all)) (no-repeat qs none) (flat-starts src at store start n)
+    ∙ flat-there rule (flatBytes qs) src 0 n start at start store rest _ (e ∙ ap (λ (l : List ℕ). l ++ rest) (sym all)) (no-repeat qs none) (flat-starts rule src at store start n)
 
 -- both read the pixels qs, and rest follows
 abbrev pub BothRead : List ℕ → ℕ → List ℕ → List Rgbe → List ℕ → Type 0
-BothRead src at store qs rest = (flat (length qs) (drop at src) ≡ some (qs, rest)) × RowReads src at store (length qs) qs rest
+BothRead src at store qs rest = (flat (length qs) (drop at src) ≡ some (qs, rest)) × RowReads crateRow src at store (length qs) qs rest
 
 no-mark : (second third : ℕ) → (second ≡ 2 → ⊥) ⊎ (128 ≤ third) → isMark second third ≡ false
 unfolding isMark
@@ -92,9 +92,16 @@ pixel-stored (x ∷ []) r g b e l = refl
 pixel-stored (x ∷ y ∷ []) r g b e l = refl
 pixel-stored (x ∷ y ∷ z ∷ s) r g b e l = refl
 
+-- and its second and third byte
+two-stored : (src : List ℕ) (at : ℕ) (store : List ℕ) → set (set store 1 (getD src (at + 1) 0)) 2 (getD src (at + 2) 0) ≡ spread 1 store 1 (bytesFrom src (at + 1) 2)
+unfolding spread bytesFrom
+two-stored src at store =
+    let two : at + 2 ≡ at + 1 + 1 = omega arith in
+    rw two
+
 module _ (src : List ℕ) (at : ℕ) (store rest : List ℕ) where
   both : (qs : List Rgbe) → NoOldRun qs → drop at src ≡ flatBytes qs ++ rest
-      → (Done (at + 4 * length qs), spread 1 store 0 (flatBytes qs)) ≡ rowOf src at store (length qs) → BothRead src at store qs rest
+      → (Done (at + 4 * length qs), spread 1 store 0 (flatBytes qs)) ≡ crateRow src at store (length qs) → BothRead src at store qs rest
   both qs none e row = (
     ap (flat (length qs)) e ∙ flat-found qs rest none,
     (flatBytes qs, e, length-flat qs, sym row ∙ ap (λ (i : ℕ). (Done (at + i), spread 1 store 0 (flatBytes qs))) (sym (length-flat qs))),
@@ -105,7 +112,7 @@ module _ (src : List ℕ) (at : ℕ) (store rest : List ℕ) where
 
   -- widths 1 to 7 and over 32,767
   pub flat-by-width : (qs : List Rgbe) → (length qs < 8) ⊎ (32767 < length qs) → NoOldRun qs → drop at src ≡ flatBytes qs ++ rest → BothRead src at store qs rest
-  flat-by-width qs h none e = both qs none e (row-by-width src at store (length qs) true (flat-width (length qs) h) _ refl (part-there src at store 0 qs rest none e))
+  flat-by-width qs h none e = both qs none e (row-by-width src at store (length qs) true (flat-width (length qs) h) _ refl (part-there crateFlat src at store 0 qs rest none e))
 
   -- other widths
   module _ (q : Rgbe) (qs : List Rgbe) (wide : 8 ≤ length (q ∷ qs)) (short : length (q ∷ qs) ≤ 32767) (none : NoOldRun (q ∷ qs)) (e : drop at src ≡ flatBytes (q ∷ qs) ++ rest) where
@@ -114,8 +121,11 @@ module _ (src : List ℕ) (at : ℕ) (store rest : List ℕ) where
     flat-by-first other =
         let w : ℕ = length (q ∷ qs) in
         let first = drop-next src at (q .r) _ e in
+        let no-two : getD src at 0 ≡ 2 → ⊥ = λ h. other (sym (first .1) ∙ h) in
+        let kind = kind-flat src at (first .0) no-two in
         both (q ∷ qs) none e
-        (row-flat src at store w false (coded-width w wide short) refl _ _ (kind-flat src at store (first .0) (λ h. other (sym (first .1) ∙ h))) _ refl (part-there src at store 0 (q ∷ qs) rest none e))
+        (row-flat src at store w false (coded-width w wide short) refl _ store kind (start-flat src at _ kind store store refl (early-other src at store no-two)) _ refl
+        (part-there crateFlat src at store 0 (q ∷ qs) rest none e))
 
     -- it is 2, but the four bytes are no mark
     pub flat-by-pixel : q .r ≡ 2 → (q .g ≡ 2 → ⊥) ⊎ (128 ≤ q .b) → BothRead src at store (q ∷ qs) rest
@@ -132,11 +142,15 @@ module _ (src : List ℕ) (at : ℕ) (store rest : List ℕ) where
         let third : getD src (at + 2) 0 ≡ q .b = rw two at (m2 .1) in
         let fourth : getD src (at + 3) 0 ≡ q .e = rw three at (m3 .1) in
         let none-there : isMark (getD src (at + 1) 0) (getD src (at + 2) 0) ≡ false = rw (m1 .1, third) (no-mark (q .g) (q .b) other) in
-        let kind = kind-pixel src at store (m0 .1 ∙ is) (omega (arith, m3 .0)) _ refl none-there in
+        let kind = kind-pixel src at (m0 .1 ∙ is) (omega (arith, m3 .0)) _ refl none-there in
         let left : w - 1 ≡ n = omega arith in
         let first : List ℕ = set (set (set (set store 1 (getD src (at + 1) 0)) 2 (getD src (at + 2) 0)) 0 2) 3 (getD src (at + 3) 0) in
-        let part : (Done (at + 4 + 4 * n), spread 1 first 4 (flatBytes qs)) ≡ flatOf src (at + 4) first 4 (w - 1) = rw left (part-there src (at + 4) first 4 qs rest (none .1) (rw four at (m3 .2))) in
-        let row = row-pixel src at store w false (coded-width w wide short) refl _ first kind _ (at + 4) refl part in
+        let start = start-pixel src at _ kind (at + 4) refl store _ (early-two src at store _ 2 (m0 .1 ∙ is) (omega (arith, m3 .0)) (two-stored src at store)) in
+        let place : at + 4 - 4 ≡ at = omega arith in
+        let last : at + 4 - 1 ≡ at + 3 = omega arith in
+        let starts : first ≡ crateStart src at store = rw (place, last, m0 .1 ∙ is) at start in
+        let part : (Done (at + 4 + 4 * n), spread 1 first 4 (flatBytes qs)) ≡ flatOf crateFlat src (at + 4) first 4 (w - 1) = rw left (part-there crateFlat src (at + 4) first 4 qs rest (none .1) (rw four at (m3 .2))) in
+        let row = row-pixel src at store w false (coded-width w wide short) refl _ first kind starts _ (at + 4) refl part in
         let stored : spread 1 store 0 (flatBytes (q ∷ qs)) ≡ spread 1 first 4 (flatBytes qs) = rw (m1 .1, third, fourth, is) (pixel-stored store 2 (q .g) (q .b) (q .e) (flatBytes qs)) in
         let ends : at + 4 * w ≡ at + 4 + 4 * n = omega arith in
         both (q ∷ qs) none e (ap (λ (i : ℕ). (Done i, spread 1 store 0 (flatBytes (q ∷ qs)))) ends ∙ ap (λ (l : List ℕ). (Done (at + 4 + 4 * n), l)) stored ∙ row)

@@ -1,4 +1,4 @@
--- The range of demand 3 is the widest: just below it and at its upper end a frame is written that does not come back within a step.
+-- By the crate reading the range of demand 3 is the widest: just below it and at its upper end a frame is written that does not come back within a step.
 use Prim.Native.Nat.{ℕ, _-_, _^_, _<_, _≤_}
 use mathlib.Core.List.{List, [], _∷_}
 use mathlib.Core.Logic.{_⊎_, inl, inr, ⊎-elim}
@@ -11,6 +11,8 @@ use Rattle.pixel.specs.Units.{mag}
 use Rattle.pixel.specs.Rgbe.{crateUnits, pixelOf, peak, bytesOf}
 use Rattle.loss.specs.Kept.{Kept}
 use Rattle.loss.proofs.Laws.Sharp.{next-dark, too-bright}
+use Rattle.rows.specs.Row.{crateRow}
+use Rattle.reader.specs.Read.{cratePixel}
 use Rattle.kept.specs.Back.{pixel, Sizes, Enough, Lies, step, ComesBack, nextBelow, firstAbove, oneRed, Lost}
 use Rattle.kept.proofs.Laws.Back.{pixels-back}
 
@@ -38,7 +40,7 @@ enough = record { wide = lit≤ tt; high = lit≤ tt; room = lit≤ tt; row = li
 
 -- a pixel that comes back as another which is not within a step of it
 not-back : (x : Float) (back : Pixel) (n : ℕ) → pixelOf crateUnits (bytesOf (pixel (oneRed x) 0)) ≡ back → Lies (pixel (oneRed x) 0) n → (Kept (step n) x (back .r) → ⊥)
-    → ComesBack 1 1 (oneRed x) → ⊥
+    → ComesBack crateRow cratePixel 1 1 (oneRed x) → ⊥
 not-back x back n is lies apart all =
     let there = pixels-back 1 1 (oneRed x) one [] 1 1 lent store enough 0 (lit< tt) ∙ is in
     apart (subst (λ (q : Pixel). Kept (step n) x (q .r)) there (all [] 1 1 lent store enough .kept 0 n (lit< tt) lies .r))
