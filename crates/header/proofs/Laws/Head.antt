@@ -5,12 +5,14 @@ use mathlib.Core.List.{List}
 use mathlib.Core.Path.{_≡_, refl, sym, ap, subst, _∙_}
 use native.Mathlib.Omega.{arith}
 use borrow.Author.Tests.{lt-ltb, le-ltb, ltb-false}
+use lib.ListN.{length}
 use Rattle.steps.specs.Loop.{pick}
 use Rattle.steps.specs.Answer.{Answer, refuse, done}
 use Rattle.steps.proofs.Laws.Answer.{passed, callOf, one-answer}
 use Rattle.words.specs.Lines.{lineFeed, space, past, between, firstLine, isFirst, linesEnd}
 use Rattle.words.specs.Fields.{Fields, trim, fieldsAt, axesOf}
 use Rattle.words.specs.Sizes.{sizeOf, isSize, sizeAnswer}
+use Rattle.words.proofs.Laws.Lines.{past-within, lines-within}
 use Rattle.header.specs.Head.{head, fieldsOf, heightField, widthField, isOther, headOf, headChecks, headerOf, paperOf, HeaderPromise, sizesAnswer, fieldsAnswer}
 use Rattle.words.specs.declared.sizes.Size.{Size}
 use Rattle.words.specs.declared.sizes.Size.the-variants.{Number, NoNumber}
@@ -144,3 +146,17 @@ header-limits bytes widest highest head e =
     let high : sizeOf (heightField axes f) ≤ min highest 65535 = ltb-false _ _ (both .0 .1 .1 .1 .0) in
     let wide : sizeOf (widthField axes f) ≤ min widest 65535 = ltb-false _ _ (both .0 .1 .1 .1 .1 .0) in
     (subst (λ (x : Head). x .width ≤ 65535) (both .1) (omega arith), subst (λ (x : Head). x .height ≤ 65535) (both .1) (omega arith))
+
+-- ---- and lies in the bytes
+
+taken-within : (bytes : List ℕ) → fieldsOf bytes .taken ≤ length bytes
+unfolding fieldsOf fieldsAt
+taken-within bytes =
+    past-within lineFeed bytes _ (past-within space bytes _ (past-within space bytes _ (past-within space bytes _ (lines-within bytes _ (past-within lineFeed bytes 0 (omega arith))))))
+
+pub header-taken : (bytes : List ℕ) (widest highest : ℕ) (head : Head) → headerOf bytes widest highest ≡ done head → fieldsOf bytes .taken ≡ head .taken
+unfolding headerOf headOf
+header-taken bytes widest highest head e = ap (λ (h : Head). h .taken) (passed (headChecks bytes widest highest) (headOf (fieldsOf bytes)) head e .1)
+
+pub header-within : (bytes : List ℕ) (widest highest : ℕ) (head : Head) → headerOf bytes widest highest ≡ done head → head .taken ≤ length bytes
+header-within bytes widest highest head e = rw (← header-taken bytes widest highest head e) (taken-within bytes)

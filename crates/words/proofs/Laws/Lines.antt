@@ -1,17 +1,18 @@
 -- The laws that proofs use of `specs/Lines.antt`.
-use Prim.Native.Nat.{ℕ, suc, _+_, _-_, _<_, _≤_}
+use Prim.Native.Nat.{ℕ, zero, suc, _+_, _-_, _<_, _≤_}
 use mathlib.Core.Bool.{Bool, true, false, _&&_}
 use mathlib.Core.List.{List, [], _∷_}
 use mathlib.Core.Path.{_≡_, refl, sym, ap, _∙_}
+use native.Mathlib.Nat.{not-suc-le-zero, lt-of-not-le}
 use native.Mathlib.Omega.{arith}
 use native.Mathlib.Numerals.{add-one}
-use borrow.Author.Tests.{eq-eqb, ne-eqb, le-leb, lt-leb, leb-false}
+use borrow.Author.Tests.{eq-eqb, eqb-true, ne-eqb, le-leb, lt-leb, leb-false, ltb-true, ltb-false}
 use lib.ListN.{length, getD, drop, length-drop, drop-of-length-le}
-use lib.Seq.{drop-cons}
-use lib.Dec.{eqb, leb}
+use lib.Seq.{drop-cons, getD-drop}
+use lib.Dec.{eqb, leb, ltb}
 use Rattle.steps.specs.Loop.{pick, more, run}
 use Rattle.steps.proofs.Laws.Loop.{Runs, runs-start, runs-more, runs-halt}
-use Rattle.steps.proofs.Laws.Turns.{by-test, Falls, never-out}
+use Rattle.steps.proofs.Laws.Turns.{by-test, Leads, Falls, run-keeps, never-out}
 use Rattle.words.specs.Lines.{upTo, past, same, radianceLine, rgbeLine, isFirst, lineFeed, lineTurn, noLines, linesEnd}
 
 -- ---- Up to a byte
@@ -25,7 +26,7 @@ unfolding upTo
 upTo-bound b [] = omega arith
 upTo-bound b (x ∷ xs) = omega (arith, pick-bound (eqb x b) (upTo b xs) (length xs) (upTo-bound b xs))
 
-upTo-some : (b x : ℕ) (xs : List ℕ) → 1 ≤ upTo b (x ∷ xs)
+pub upTo-some : (b x : ℕ) (xs : List ℕ) → 1 ≤ upTo b (x ∷ xs)
 unfolding upTo
 upTo-some b x xs = some (eqb x b) (upTo b xs)
   where
@@ -53,6 +54,44 @@ pub past-moves : (b : ℕ) (bytes : List ℕ) (at : ℕ) → at < length bytes �
 unfolding past
 past-moves b bytes at h = rw (drop-cons bytes at 0 h) (omega (arith, upTo-some b (getD bytes at 0) (drop (suc at) bytes)))
 
+-- a search that ends before the end of the bytes has found its byte
+upTo-byte : (b : ℕ) (xs : List ℕ) → upTo b xs < length xs → getD xs (upTo b xs - 1) 0 ≡ b
+unfolding upTo
+upTo-byte b [] h = absurd (not-suc-le-zero h)
+upTo-byte b (x ∷ xs) h = go (eqb x b) refl (upTo-byte b xs) h
+  where
+    some : upTo b xs < length xs → 1 ≤ upTo b xs
+    some l = rw (drop-cons xs 0 0 (omega arith)) (upTo-some b (getD xs 0 0) (drop 1 xs))
+
+    go : (t : Bool) → eqb x b ≡ t → (upTo b xs < length xs → getD xs (upTo b xs - 1) 0 ≡ b) → pick t 1 (1 + upTo b xs) < suc (length xs)
+        → getD (x ∷ xs) (pick t 1 (1 + upTo b xs) - 1) 0 ≡ b
+    go true e rec h = eqb-true x b e
+    go false e rec h =
+        let l : upTo b xs < length xs = omega arith in
+        let k : 1 + upTo b xs - 1 ≡ suc (upTo b xs - 1) = omega (arith, some l) in
+        rw k (rec l)
+
+-- and it goes no further than to a place that has its byte
+upTo-most : (b : ℕ) (xs : List ℕ) (p : ℕ) → p < length xs → getD xs p 0 ≡ b → upTo b xs ≤ 1 + p
+unfolding upTo
+upTo-most b [] p h e = absurd (not-suc-le-zero h)
+upTo-most b (x ∷ xs) zero h e = omega (arith, upTo-found b x xs e)
+upTo-most b (x ∷ xs) (suc p) h e = omega (arith, pick-bound (eqb x b) (upTo b xs) (1 + p) (upTo-most b xs p (omega arith) e))
+
+pub past-byte : (b : ℕ) (bytes : List ℕ) (at : ℕ) → past b bytes at < length bytes → getD bytes (past b bytes at - 1) 0 ≡ b
+unfolding past
+past-byte b bytes at h =
+    let u = upTo b (drop at bytes) in
+    let k : at + u - 1 ≡ at + (u - 1) = omega (arith, past-moves b bytes at (omega arith)) in
+    rw k (sym (getD-drop at bytes (u - 1) 0) ∙ upTo-byte b (drop at bytes) (omega (arith, length-drop at bytes)))
+
+pub past-most : (b : ℕ) (bytes : List ℕ) (at p : ℕ) → at ≤ p → p < length bytes → getD bytes p 0 ≡ b → past b bytes at ≤ p + 1
+unfolding past
+past-most b bytes at p h l e =
+    let k : at + (p - at) ≡ p = omega arith in
+    let there : getD (drop at bytes) (p - at) 0 ≡ b = rw (getD-drop at bytes (p - at) 0, k) e in
+    omega (arith, upTo-most b (drop at bytes) (p - at) (omega (arith, length-drop at bytes)) there)
+
 -- a search that has come to the place p without finding the byte
 module _ (b : ℕ) (bytes : List ℕ) (p w : ℕ) (is : past b bytes p ≡ w) where
   pub past-end : length bytes ≤ p → p ≡ w
@@ -71,6 +110,24 @@ module _ (b : ℕ) (bytes : List ℕ) (p w : ℕ) (is : past b bytes p ≡ w) wh
     past-on e =
         let on : past b bytes (p + 1) ≡ past b bytes p = rw (past, add-one, drop-cons bytes p 0 h) (omega (arith, upTo-on b (getD bytes p 0) (drop (suc p) bytes) e)) in
         on ∙ is
+
+-- a search takes nothing exactly at the end of the bytes
+module _ (b : ℕ) (bytes : List ℕ) (at : ℕ) where
+  pub past-none : past b bytes at ≤ at → length bytes ≤ at
+  past-none h = by-place (ltb at (length bytes)) refl
+    where
+      no : at < past b bytes at → ⊥
+      no m = omega arith
+
+      by-place : (t : Bool) → ltb at (length bytes) ≡ t → length bytes ≤ at
+      by-place true t = absurd (no (past-moves b bytes at (ltb-true _ _ t)))
+      by-place false t = ltb-false _ _ t
+
+  pub past-some : at < past b bytes at → at < length bytes
+  past-some h = lt-of-not-le (λ l. no (past-end b bytes at _ refl l))
+    where
+      no : at ≡ past b bytes at → ⊥
+      no e = omega arith
 
 -- ---- Two byte strings
 
@@ -142,12 +199,25 @@ pub line-less : (bytes : List ℕ) (p q : ℕ) → p < length bytes → q ≡ pa
 line-less bytes p q h e = omega (arith, past-moves lineFeed bytes p h)
 
 -- the turns are never used up, since each line takes a byte or more
-falls : (bytes : List ℕ) (p : ℕ) → Falls (λ (q : ℕ). length bytes - q) p (lineTurn bytes p)
+pub lines-fall : (bytes : List ℕ) (p : ℕ) → Falls (λ (q : ℕ). length bytes - q) p (lineTurn bytes p)
 unfolding lineTurn
-falls bytes p =
+lines-fall bytes p =
     by-test (Falls (λ (q : ℕ). length bytes - q) p) (leb (length bytes) p) (λ t. tt)
     (λ t. by-test (Falls (λ (q : ℕ). length bytes - q) p) (eqb (getD bytes p 0) lineFeed) (λ u. tt) (λ u. line-less bytes p _ (leb-false (length bytes) p t) refl))
 
 pub lines-never-out : (bytes : List ℕ) (at : ℕ) (other : ℕ → ℕ) → linesEnd bytes at ≡ run (lineTurn bytes) other (length bytes + 1) at
 unfolding linesEnd
-lines-never-out bytes at other = never-out (lineTurn bytes) noLines other (λ p. length bytes - p) (falls bytes) _ _ (omega arith)
+lines-never-out bytes at other = never-out (lineTurn bytes) noLines other (λ p. length bytes - p) (lines-fall bytes) _ _ (omega arith)
+
+-- and the lines end within the bytes
+pub lines-within : (bytes : List ℕ) (at : ℕ) → at ≤ length bytes → linesEnd bytes at ≤ length bytes
+unfolding linesEnd lineTurn
+lines-within bytes at h = run-keeps (lineTurn bytes) noLines P P step (λ p q. q) _ _ h
+  where
+    P : ℕ → Type 0
+    P p = p ≤ length bytes
+
+    step : (p : ℕ) → P p → Leads P P (lineTurn bytes p)
+    step p q =
+        by-test (Leads P P) (leb (length bytes) p) (λ _. q)
+        (λ t. by-test (Leads P P) (eqb (getD bytes p 0) lineFeed) (λ _. let l = leb-false (length bytes) p t in omega arith) (λ _. past-within lineFeed bytes p q))
