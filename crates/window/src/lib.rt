@@ -1,16 +1,14 @@
 // A file of which only a part is at hand: its header, its rows, and the part moved on.
-use header::Head;
-use header::HeadAnswer;
+mod head;
+
+pub use head::HeadPart;
+pub use head::read_header;
 use steps::Taken;
-use steps::refusal;
-use steps::refusal::Refusal;
 ghost use mathlib.Core.Path.{_≡_};
 ghost use Prim.Native.Nat.{ℕ, _+_, _-_, _*_, _≤_, _<_};
 ghost use mathlib.Core.Bool.{_&&_};
 ghost use lib.ListN.{length, getD};
-ghost use lib.Dec.{eqb, leb};
-ghost use Rattle.header.specs.Head.{paperOf};
-ghost use Rattle.window.specs.Header.{stageOf, endsFrom, refusedPart, headPart, HeadPromise, HeadWithin};
+ghost use lib.Dec.{leb};
 ghost use Rattle.window.specs.Row.{rowPart, RowPromise, RowWithin};
 
 // Whether what ends at a place may need more than a part of that length. `more` says whether the file goes on after the part.
@@ -68,103 +66,6 @@ pub fn read_row(part: &[u8], more: bool, at: usize, store: &mut [u8], width: usi
 {
     let taken = rows::read_row(part, at, store, width);
     row_part(more, part.len(), taken)
-}
-
-// What reading a header answers: what it says; a refusal; or that it needs more than the part.
-pub enum HeadPart {
-    Read(Head),
-    Refused(Refusal),
-    Long,
-}
-
-// The stage of a header after one byte more.
-fn next_stage(stage: u8, b: u8) -> u8
-    requires { ⌜ stage ≤ 5 ⌝ }
-    ensures { λ r. ⌜ r ≡ stageOf stage b ⌝ }
-    ensures { λ r. ⌜ r ≤ 6 ⌝ }
-{
-    if stage < 2 {
-        if b == 10 {
-            return stage + 1;
-        }
-        return 0;
-    }
-    if stage == 5 {
-        if b == 10 {
-            return 6;
-        }
-        return 5;
-    }
-    if b == 32 {
-        return stage + 1;
-    }
-    stage
-}
-
-// Whether a header ends inside the part: an empty line, three spaces and a line feed.
-fn header_ends(part: &[u8]) -> bool
-    ensures { λ r. ⌜ r ≡ endsFrom 0 (now (part .entry)) ⌝ }
-{
-    let mut stage = 0u8;
-    let mut i = 0;
-    while i < part.len() {
-        stage = next_stage(stage, part[i]);
-        if stage == 6 {
-            return true;
-        }
-        i += 1;
-    }
-    false
-}
-
-// Whether a refusal is that of the first line, and a part of that length has enough to say so: a right first line has 11 bytes at most.
-fn is_first_line(number: u8, length: usize) -> bool
-    ensures { λ r. ⌜ r ≡ eqb number 1 && leb 11 length ⌝ }
-{
-    if number == refusal::FIRST_LINE {
-        return 11 <= length;
-    }
-    false
-}
-
-// What a part says of a header that it refuses.
-fn refused_part(part: &[u8], more: bool, refusal: Refusal) -> HeadPart
-    ensures { λ r. ⌜ r ≡ refusedPart more (now (part .entry)) refusal ⌝ }
-{
-    if is_first_line(refusal.number, part.len()) {
-        return HeadPart::Refused(refusal);
-    }
-    if more {
-        if header_ends(part) {
-            return HeadPart::Refused(refusal);
-        }
-        return HeadPart::Long;
-    }
-    HeadPart::Refused(refusal)
-}
-
-// What a part says of a header that was read so.
-fn head_part(part: &[u8], more: bool, answer: HeadAnswer) -> HeadPart
-    ensures { λ r. ⌜ r ≡ headPart more (now (part .entry)) (paperOf answer) ⌝ }
-{
-    match answer {
-        HeadAnswer::Read(head) => {
-            if reaches(more, part.len(), head.taken) {
-                return HeadPart::Long;
-            }
-            HeadPart::Read(head)
-        }
-        HeadAnswer::Refused(refusal) => refused_part(part, more, refusal),
-    }
-}
-
-// The header at the start of the part, with no limits but the format's own.
-pub fn read_header(part: &[u8], more: bool) -> HeadPart
-    ensures { λ r. ⌜ HeadPromise (now (part .entry)) more r ⌝ }
-    ensures { λ r. ⌜ HeadWithin (length (now (part .entry))) r ⌝ }
-{
-    let answer = header::read(part, 65535, 65535);
-    head_part(part, more, answer)
 }
 
 // Moves the bytes from `at` to `end` to the front.

@@ -19,8 +19,8 @@ use Rattle.runs.specs.Row.{isCoded, rowOf, worstRow}
 use Rattle.runs.proofs.Laws.Worst.{row-worst}
 use Rattle.window.specs.Header.{HeadWithin}
 use Rattle.window.specs.Row.{RowWithin}
-use Rattle.window.specs.declared.HeadPart.{HeadPart}
-use Rattle.window.specs.declared.HeadPart.the-variants as head
+use Rattle.window.specs.declared.head.HeadPart.{HeadPart}
+use Rattle.window.specs.declared.head.HeadPart.the-variants as head
 use Rattle.window.specs.declared.RowPart.{RowPart}
 use Rattle.window.specs.declared.RowPart.the-variants as row
 

@@ -7,8 +7,8 @@ use Rattle.survey.specs.declared.Totals.{Totals}
 use Rattle.header.specs.declared.Head.{Head}
 use Rattle.window.specs.Header.{HeadWithin}
 use Rattle.window.specs.Row.{RowWithin}
-use Rattle.window.specs.declared.HeadPart.{HeadPart}
-use Rattle.window.specs.declared.HeadPart.the-variants as head
+use Rattle.window.specs.declared.head.HeadPart.{HeadPart}
+use Rattle.window.specs.declared.head.HeadPart.the-variants as head
 use Rattle.window.specs.declared.RowPart.{RowPart}
 use Rattle.window.specs.declared.RowPart.the-variants as row
 use Rattle.sky.specs.View.{Started, Stepped, Ended}

@@ -1,76 +1,70 @@
 -- The laws of `specs/Header.antt`.
-use Prim.Native.Nat.{ℕ, suc, _+_, _<_, _≤_}
-use mathlib.Core.Bool.{Bool, true, false, not, _&&_, _||_}
-use mathlib.Core.List.{List}
-use mathlib.Core.Path.{_≡_, sym, ap, _∙_}
-use native.Mathlib.Numerals.{add-one}
+use Prim.{Unit}
+use Prim.Native.Nat.{ℕ, _-_, _<_, _≤_}
+use mathlib.Core.Bool.{Bool, true, false, not, _&&_}
+use mathlib.Core.List.{List, [], _∷_, _++_, append-nil}
+use mathlib.Core.Path.{_≡_, refl, sym, ap, subst, _∙_}
+use native.Mathlib.Nat.{lt-of-not-le}
 use native.Mathlib.Omega.{arith}
-use borrow.Author.Tests.{eq-eqb, ne-eqb, lt-ltb, le-ltb, leb-false}
-use lib.ListN.{length, getD, drop, drop-of-length-le}
-use lib.Seq.{drop-cons}
+use borrow.Author.Tests.{eq-eqb, ne-eqb, eqb-true, lt-leb, leb-true, leb-false, not-false}
+use lib.ListN.{length, getD, length-append}
 use lib.Dec.{eqb, leb}
-use Rattle.steps.specs.Answer.{Answer, done, refused}
+use Rattle.steps.specs.Answer.{Answer, done, refused, refusalOf}
 use Rattle.steps.specs.declared.refusal.Refusal.{Refusal}
-use Rattle.steps.proofs.Laws.Turns.{by-test, Leads, run-keeps}
-use Rattle.steps.proofs.Laws.Answer.{passed}
+use Rattle.steps.proofs.Laws.Turns.{by-test, and-left, and-right}
+use Rattle.words.specs.Lines.{lineFeed, space, past, linesEnd}
+use Rattle.words.proofs.Laws.Lines.{past-from, past-moves, past-none, past-some}
+use Rattle.words.proofs.Laws.Rest.{Inside, past-more}
 use Rattle.header.specs.declared.Head.{Head}
 use Rattle.header.specs.declared.HeadAnswer.{HeadAnswer}
 use Rattle.header.specs.declared.HeadAnswer.the-variants as answer
-use Rattle.words.specs.Lines.{lineFeed, space, lineTurn, noLines, linesEnd}
-use Rattle.words.specs.Fields.{fieldsAt}
-use Rattle.header.specs.Head.{fieldsOf, headChecks, headOf, headerOf, paperOf}
-use Rattle.words.proofs.Laws.Lines.{past-within}
-use Rattle.header.proofs.Laws.Head.{header-limits}
-use Rattle.window.specs.declared.HeadPart.{HeadPart}
-use Rattle.window.specs.declared.HeadPart.the-variants.{Read, Refused, Long}
-use Rattle.window.specs.Header.{stageOf, endsFrom, refusedPart, headPart, HeadWithin}
+use Rattle.header.specs.Head.{fieldsOf, headerOf, paperOf}
+use Rattle.header.proofs.Laws.Head.{header-limits, header-taken, header-within}
+use Rattle.header.proofs.Laws.Rest.{lastStart, taken-last, last-rest, header-rest, wrong-line}
+use Rattle.window.specs.declared.head.HeadPart.{HeadPart}
+use Rattle.window.specs.declared.head.HeadPart.the-variants.{Read, Refused, Long}
+use Rattle.window.specs.Header.{endsInside, refusedPart, headPart, HeadPromise, HeadWithin}
+use Rattle.window.proofs.Laws.Row.{Goes}
 
--- ---- The stages
+-- ---- Whether the header ends inside the part
 
-module _ (stage b : ℕ) where
-  pub stage-line : stage < 2 → b ≡ 10 → stage + 1 ≡ stageOf stage b
-  unfolding stageOf
-  stage-line h e = simp (lt-ltb stage 2 h, eq-eqb b 10 e)
+module _ (part : List ℕ) where
+  ends-in : lastStart part < length part → eqb (getD part (past lineFeed part (lastStart part) - 1) 0) lineFeed ≡ endsInside part
+  unfolding endsInside
+  ends-in h =
+      let inside : Inside (lastStart (part ++ [])) part [] = rw (append-nil part) (omega arith, h) in
+      let same : lastStart (part ++ 0 ∷ []) ≡ lastStart part = last-rest part [] (0 ∷ []) inside ∙ ap lastStart (append-nil part) in
+      rw (taken-last (part ++ 0 ∷ []), same) (past-more lineFeed part (lastStart part) 0 h)
 
-  pub stage-text : stage < 2 → (b ≡ 10 → ⊥) → 0 ≡ stageOf stage b
-  unfolding stageOf
-  stage-text h e = simp (lt-ltb stage 2 h, ne-eqb b 10 e)
+  ends-out : length part ≤ lastStart part → false ≡ endsInside part
+  unfolding endsInside
+  ends-out h = sym (lt-leb _ _ (lt-of-not-le no))
+    where
+      c : ℕ
+      c = lastStart (part ++ 0 ∷ [])
 
-  module _ (h : 2 ≤ stage) where
-    pub stage-end : stage ≡ 5 → b ≡ 10 → 6 ≡ stageOf stage b
-    unfolding stageOf
-    stage-end k e = simp (le-ltb stage 2 h, eq-eqb stage 5 k, eq-eqb b 10 e)
+      no : fieldsOf (part ++ 0 ∷ []) .taken ≤ length part → ⊥
+      no l =
+          let taken = taken-last (part ++ 0 ∷ []) in
+          let one = length-append part (0 ∷ []) in
+          let from = past-from lineFeed (part ++ 0 ∷ []) c in
+          let inside : Inside c part (0 ∷ []) = (omega arith, omega arith) in
+          let same : lastStart part ≡ c = ap lastStart (sym (append-nil part)) ∙ last-rest part (0 ∷ []) [] inside in
+          omega (arith, past-moves lineFeed (part ++ 0 ∷ []) c (inside .1))
 
-    pub stage-last : stage ≡ 5 → (b ≡ 10 → ⊥) → 5 ≡ stageOf stage b
-    unfolding stageOf
-    stage-last k e = simp (le-ltb stage 2 h, eq-eqb stage 5 k, ne-eqb b 10 e)
+  -- the last field begins at c, and the header is taken up to d
+  module _ (d c b a at l : ℕ) (ed : d ≡ past lineFeed part c) (ec : c ≡ past space part b) (eb : b ≡ past space part a) (ea : a ≡ past space part at) (et : at ≡ linesEnd part l)
+      (el : l ≡ past lineFeed part 0) where
+    last-is : c ≡ lastStart part
+    last-is = rw (ec, eb, ea, et, el)
 
-    pub stage-space : (stage ≡ 5 → ⊥) → b ≡ 32 → stage + 1 ≡ stageOf stage b
-    unfolding stageOf
-    stage-space k e = simp (le-ltb stage 2 h, ne-eqb stage 5 k, eq-eqb b 32 e)
+    pub ends-not : d ≤ c → false ≡ endsInside part
+    ends-not h = ends-out (rw (← last-is) (past-none lineFeed part c (rw (← ed) h)))
 
-    pub stage-field : (stage ≡ 5 → ⊥) → (b ≡ 32 → ⊥) → stage ≡ stageOf stage b
-    unfolding stageOf
-    stage-field k e = simp (le-ltb stage 2 h, ne-eqb stage 5 k, ne-eqb b 32 e)
-
--- a search that has come to the place i with the header not at its end
-module _ (part : List ℕ) (i stage : ℕ) (w : Bool) (is : endsFrom stage (drop i part) ≡ w) where
-  pub ends-none : length part ≤ i → false ≡ w
-  unfolding endsFrom
-  ends-none h =
-      let none : endsFrom stage (drop i part) ≡ false = rw (drop-of-length-le part h) in
-      sym none ∙ is
-
-  module _ (next : ℕ) (h : i < length part) (e : next ≡ stageOf stage (getD part i 0)) where
-    front : endsFrom stage (drop i part) ≡ (eqb next 6 || endsFrom next (drop (suc i) part))
-    unfolding endsFrom
-    front = rw (drop-cons part i 0 h, e)
-
-    pub ends-here : next ≡ 6 → true ≡ w
-    ends-here k = sym (front ∙ simp (eq-eqb next 6 k)) ∙ is
-
-    pub ends-later : (next ≡ 6 → ⊥) → endsFrom next (drop (i + 1) part) ≡ w
-    ends-later k = rw add-one (sym (front ∙ simp (ne-eqb next 6 k)) ∙ is)
+    pub ends-by : c < d → eqb (getD part (d - 1) 0) 10 ≡ endsInside part
+    ends-by h =
+        let inside : lastStart part < length part = rw (← last-is) (past-some lineFeed part c (rw (← ed) h)) in
+        rw (ed, last-is) (ends-in inside)
 
 -- ---- What the code finds, case by case
 
@@ -92,7 +86,7 @@ module _ (more : Bool) (part : List ℕ) (r : Refusal) (n : ℕ) (en : n ≡ len
     unfolding refusedPart
     refused-whole u = simp (← en, sym ea ∙ h, u)
 
-    module _ (u : more ≡ true) (b : Bool) (eb : b ≡ endsFrom 0 part) where
+    module _ (u : more ≡ true) (b : Bool) (eb : b ≡ endsInside part) where
       pub refused-ended : b ≡ true → Refused r ≡ refusedPart more part r
       unfolding refusedPart
       refused-ended v = simp (← en, sym ea ∙ h, u, sym eb ∙ v)
@@ -117,39 +111,15 @@ module _ (more : Bool) (part : List ℕ) (a : HeadAnswer) where
 
 -- ---- A header that is read lies in the part
 
-lines-within : (bytes : List ℕ) (at : ℕ) → at ≤ length bytes → linesEnd bytes at ≤ length bytes
-unfolding linesEnd lineTurn
-lines-within bytes at h =
-    run-keeps (lineTurn bytes) noLines P P step (λ p q. q) _ _ h
-  where
-    P : ℕ → Type 0
-    P p = p ≤ length bytes
-
-    step : (p : ℕ) → P p → Leads P P (lineTurn bytes p)
-    step p q =
-        by-test (Leads P P) (leb (length bytes) p) (λ _. q)
-        (λ t. by-test (Leads P P) (eqb (getD bytes p 0) lineFeed) (λ _. let l = leb-false (length bytes) p t in omega arith) (λ _. past-within lineFeed bytes p q))
-
-taken-within : (bytes : List ℕ) → fieldsOf bytes .taken ≤ length bytes
-unfolding fieldsOf fieldsAt
-taken-within bytes =
-    past-within lineFeed bytes _ (past-within space bytes _ (past-within space bytes _ (past-within space bytes _ (lines-within bytes _ (past-within lineFeed bytes 0 (omega arith))))))
-
-read-within : (bytes : List ℕ) (head : Head) → headerOf bytes 65535 65535 ≡ done head → head .taken ≤ length bytes
-unfolding headerOf headOf
-read-within bytes head e =
-    let k : fieldsOf bytes .taken ≡ head .taken = ap (λ (h : Head). h .taken) (passed (headChecks bytes 65535 65535) (headOf (fieldsOf bytes)) head e .1) in
-    rw (sym k) (taken-within bytes)
-
 refused-within : (n : ℕ) (more : Bool) (part : List ℕ) (r : Refusal) → HeadWithin n (refusedPart more part r)
 unfolding refusedPart
-refused-within n more part r = by-test (HeadWithin n) (eqb (r .number) 1 && leb 11 (length part)) (λ _. tt) (λ _. by-test (HeadWithin n) (more && not (endsFrom 0 part)) (λ _. tt) (λ _. tt))
+refused-within n more part r = by-test (HeadWithin n) (eqb (r .number) 1 && leb 11 (length part)) (λ _. tt) (λ _. by-test (HeadWithin n) (more && not (endsInside part)) (λ _. tt) (λ _. tt))
 
 answer-within : (part : List ℕ) (more : Bool) (a : Answer Head) → a ≡ headerOf part 65535 65535 → HeadWithin (length part) (headPart more part a)
 unfolding headPart
 answer-within part more (done head) e =
     by-test (HeadWithin (length part)) (more && leb (length part) (head .taken)) (λ _. tt)
-    (λ _. let l = header-limits part 65535 65535 head (sym e) in (read-within part head (sym e), l .0, l .1))
+    (λ _. let l = header-limits part 65535 65535 head (sym e) in (header-within part 65535 65535 head (sym e), l .0, l .1))
 answer-within part more (refused number place) e = refused-within (length part) more part _
 
 module _ (part : List ℕ) (more : Bool) (a : HeadAnswer) (p : HeadPart) (ea : paperOf a ≡ headerOf part 65535 65535) (e : p ≡ headPart more part (paperOf a)) where
@@ -158,3 +128,55 @@ module _ (part : List ℕ) (more : Bool) (a : HeadAnswer) (p : HeadPart) (ea : p
 
   pub head-within : HeadWithin (length part) p
   head-within = rw e (answer-within part more (paperOf a) ea)
+
+-- ---- What a part says of the header holds of the whole file
+
+-- the bytes answer what a part says
+abbrev Answers : List ℕ → HeadPart → Type 0
+Answers bytes (Read head) = headerOf bytes 65535 65535 ≡ done head
+Answers bytes (Refused r) = headerOf bytes 65535 65535 ≡ refusalOf r
+Answers bytes Long = Unit {0}
+
+module _ (part rest : List ℕ) where
+  -- a header that ends before the part does
+  read-whole : fieldsOf part .taken < length part → headerOf (part ++ rest) 65535 65535 ≡ headerOf part 65535 65535
+  read-whole h =
+      let inside : Inside (fieldsOf (part ++ []) .taken) part [] = rw (append-nil part) (omega arith, h) in
+      header-rest part [] rest 65535 65535 inside ∙ rw (append-nil part)
+
+  -- one that ends inside the part
+  ended-whole : endsInside part ≡ true → headerOf (part ++ rest) 65535 65535 ≡ headerOf part 65535 65535
+  unfolding endsInside
+  ended-whole t =
+      let l = leb-true _ _ t in
+      let inside : Inside (fieldsOf (part ++ 0 ∷ []) .taken) part (0 ∷ []) = (l, omega (arith, length-append part (0 ∷ []))) in
+      let same : headerOf (part ++ []) 65535 65535 ≡ headerOf part 65535 65535 = rw (append-nil part) in
+      header-rest part (0 ∷ []) rest 65535 65535 inside ∙ sym (header-rest part (0 ∷ []) [] 65535 65535 inside) ∙ same
+
+  -- one whose first line is wrong
+  wrong-whole : (number place : ℕ) → headerOf part 65535 65535 ≡ refused number place → (eqb number 1 && leb 11 (length part)) ≡ true
+      → headerOf (part ++ rest) 65535 65535 ≡ refused number place
+  wrong-whole number place e t =
+      let one : number ≡ 1 = eqb-true _ _ (and-left (eqb number 1) _ t) in
+      rw one (wrong-line part rest 65535 65535 place (leb-true _ _ (and-right (eqb number 1) _ t)) (rw (← one) e))
+
+  answers : (more : Bool) → Goes more rest → (a : Answer Head) → headerOf part 65535 65535 ≡ a → Answers (part ++ rest) (headPart more part a)
+  unfolding headPart refusedPart
+  answers false g (done head) e = rw (g, append-nil part) e
+  answers false g (refused number place) e =
+      by-test (Answers (part ++ rest)) (eqb number 1 && leb 11 (length part)) (λ _. rw (g, append-nil part) e) (λ _. rw (g, append-nil part) e)
+  answers true g (done head) e =
+      by-test (Answers (part ++ rest)) (leb (length part) (head .taken)) (λ _. tt)
+      (λ t. read-whole (rw (header-taken part 65535 65535 head e) (leb-false _ _ t)) ∙ e)
+  answers true g (refused number place) e =
+      by-test (Answers (part ++ rest)) (eqb number 1 && leb 11 (length part)) (wrong-whole number place e)
+      (λ _. by-test (Answers (part ++ rest)) (not (endsInside part)) (λ _. tt) (λ t. ended-whole (not-false _ t) ∙ e))
+
+  module _ (more : Bool) (g : Goes more rest) where
+    -- a header that is read in the part is the file's
+    pub header-of-file : (head : Head) → HeadPromise part more (Read head) → headerOf (part ++ rest) 65535 65535 ≡ done head
+    header-of-file head e = subst (Answers (part ++ rest)) (sym e) (answers more g _ refl)
+
+    -- and one that is refused there is refused so in the file
+    pub refusal-of-file : (r : Refusal) → HeadPromise part more (Refused r) → headerOf (part ++ rest) 65535 65535 ≡ refusalOf r
+    refusal-of-file r e = subst (Answers (part ++ rest)) (sym e) (answers more g _ refl)

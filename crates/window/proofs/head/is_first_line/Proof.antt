@@ -1,7 +1,7 @@
--- `window::is_first_line` meets its contract.
+-- `window::head::is_first_line` meets its contract.
 use Rattle.window.proofs.Laws.Header.{first-line, no-first-line}
-use Rattle.window.proofs.is_first_line.Statement.{statement}
-use Rattle.window.proofs.is_first_line.Tie as tie
+use Rattle.window.proofs.head.is_first_line.Statement.{statement}
+use Rattle.window.proofs.head.is_first_line.Tie as tie
 
 returns : tie.Need-returns
 returns c = search first-line

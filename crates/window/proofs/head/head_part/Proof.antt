@@ -1,8 +1,8 @@
--- `window::head_part` meets its contract, case by case.
+-- `window::head::head_part` meets its contract, case by case.
 use borrow.Author.Needs.{needs}
 use Rattle.window.proofs.Laws.Header.{head-long, head-read, head-refused}
-use Rattle.window.proofs.head_part.Statement.{statement}
-use Rattle.window.proofs.head_part.Tie as tie
+use Rattle.window.proofs.head.head_part.Statement.{statement}
+use Rattle.window.proofs.head.head_part.Tie as tie
 
 enum-known-answer : tie.Need-enum-known-answer
 enum-known-answer c = search needs

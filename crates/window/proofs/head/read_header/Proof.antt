@@ -1,8 +1,8 @@
--- `window::read_header` meets its contract.
+-- `window::head::read_header` meets its contract.
 use borrow.Author.Needs.{needs}
 use Rattle.window.proofs.Laws.Header.{head-is, head-within}
-use Rattle.window.proofs.read_header.Statement.{statement}
-use Rattle.window.proofs.read_header.Tie as tie
+use Rattle.window.proofs.head.read_header.Statement.{statement}
+use Rattle.window.proofs.head.read_header.Tie as tie
 
 read-requires : tie.Need-read-requires
 read-requires c κs = search needs

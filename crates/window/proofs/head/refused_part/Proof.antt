@@ -1,8 +1,8 @@
--- `window::refused_part` meets its contract, case by case.
+-- `window::head::refused_part` meets its contract, case by case.
 use borrow.Author.Needs.{needs}
 use Rattle.window.proofs.Laws.Header.{refused-first, refused-whole, refused-ended, refused-long}
-use Rattle.window.proofs.refused_part.Statement.{statement}
-use Rattle.window.proofs.refused_part.Tie as tie
+use Rattle.window.proofs.head.refused_part.Statement.{statement}
+use Rattle.window.proofs.head.refused_part.Tie as tie
 
 is-first-line-requires : tie.Need-is-first-line-requires
 is-first-line-requires c κs = search needs
