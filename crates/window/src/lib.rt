@@ -5,10 +5,12 @@ pub use head::HeadPart;
 pub use head::read_header;
 use steps::Taken;
 ghost use mathlib.Core.Path.{_≡_};
-ghost use Prim.Native.Nat.{ℕ, _+_, _-_, _*_, _≤_, _<_};
+ghost use Prim.Native.Nat.{_-_, _*_, _≤_};
 ghost use mathlib.Core.Bool.{_&&_};
-ghost use lib.ListN.{length, getD};
+ghost use mathlib.Core.List.{_++_};
+ghost use lib.ListN.{length, drop};
 ghost use lib.Dec.{leb};
+ghost use Rattle.words.specs.Lines.{between};
 ghost use Rattle.window.specs.Row.{rowPart, RowPromise, RowWithin};
 
 // Whether what ends at a place may need more than a part of that length. `more` says whether the file goes on after the part.
@@ -68,10 +70,10 @@ pub fn read_row(part: &[u8], more: bool, at: usize, store: &mut [u8], width: usi
     row_part(more, part.len(), taken)
 }
 
-// Moves the bytes from `at` to `end` to the front.
+// Moves the bytes from `at` to `end` to the front; those behind them stay as they were.
 pub fn slide(bytes: &mut [u8], at: usize, end: usize)
     requires { ⌜ (at ≤ end) × (end ≤ length (now bytes)) ⌝ }
-    ensures { λ _. ⌜ ((i : ℕ) → i < end - at → getD (now (bytes .exit)) i 0 ≡ getD (now (bytes .entry)) (at + i) 0) ⌝ }
+    ensures { λ _. ⌜ now (bytes .exit) ≡ between (now (bytes .entry)) at end ++ drop (end - at) (now (bytes .entry)) ⌝ }
 {
     let mut i = 0;
     let mut from = at;

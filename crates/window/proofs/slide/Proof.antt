@@ -1,21 +1,21 @@
 -- `window::slide` meets its contract. The invariant: so many bytes are moved, and those behind them are as they were.
 use borrow.Author.Needs.{needs}
-use mathlib.Core.Path.{_≡_}
+use mathlib.Core.Path.{_≡_, refl}
 use Prim.Native.Nat.{_+_, _-_, _≤_}
 use native.Mathlib.Omega.{arith}
 use lib.ListN.{length}
-use Rattle.window.proofs.Laws.Slide.{Slid, slid-start, slid-again, slid-end}
+use Rattle.window.proofs.Laws.Slide.{slid, slid-again, slid-end}
 use Rattle.window.proofs.slide.Statement.{statement}
 use Rattle.window.proofs.slide.Tie as tie
 
 abbrev Inv-loop : tie.InvT-loop
-Inv-loop bytes₀ at end i₀ from₀ bytes i from = (from ≡ at + i) × (from ≤ end) × (length bytes ≡ length bytes₀) × Slid at bytes₀ bytes i
+Inv-loop bytes₀ at end i₀ from₀ bytes i from = (from ≡ at + i) × (from ≤ end) × (length bytes ≡ length bytes₀) × (bytes ≡ slid at bytes₀ i)
 
 abbrev μ-loop : tie.MeasureT-loop
 μ-loop bytes₀ at end i₀ from₀ bytes i from = end - from
 
 loop-holds : tie.Need-loop-holds Inv-loop μ-loop
-loop-holds c = (search needs, search needs, search needs, slid-start _ _)
+loop-holds c = (search needs, search needs, search needs, refl)
 
 slice-read-bytes : tie.Need-slice-read-bytes Inv-loop μ-loop
 slice-read-bytes c = search needs
