@@ -1,5 +1,5 @@
 // A file that is read by a window: 2 MiB of it are held, and a header or a row is looked for in the 1 MiB from its start on.
-// What is read or refused in such a part is read or refused alike in the whole file: `header-of-file`, `refusal-of-file`, `row-of-file` and `short-of-file`, in the laws of `window`.
+// What is read or refused in such a part is read or refused alike in the whole file: `header-of-file`, `refusal-of-file` and `crate-row-of-file`, in the laws of `window`.
 use crate::outcome::Outcome;
 use header::Head;
 use libc::SEEK_END;

@@ -4,12 +4,13 @@ mod head;
 pub use head::HeadPart;
 pub use head::read_header;
 use steps::Taken;
+use steps::refusal;
 ghost use mathlib.Core.Path.{_≡_};
 ghost use Prim.Native.Nat.{_-_, _*_, _≤_};
 ghost use mathlib.Core.Bool.{_&&_};
 ghost use mathlib.Core.List.{_++_};
 ghost use lib.ListN.{length, drop};
-ghost use lib.Dec.{leb};
+ghost use lib.Dec.{eqb, leb};
 ghost use Rattle.words.specs.Lines.{between};
 ghost use Rattle.window.specs.Row.{rowPart, RowPromise, RowWithin};
 

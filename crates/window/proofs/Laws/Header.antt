@@ -24,7 +24,7 @@ use Rattle.header.proofs.Laws.Rest.{lastStart, taken-last, last-rest, header-re
 use Rattle.window.specs.declared.head.HeadPart.{HeadPart}
 use Rattle.window.specs.declared.head.HeadPart.the-variants.{Read, Refused, Long}
 use Rattle.window.specs.Header.{endsInside, refusedPart, headPart, HeadPromise, HeadWithin}
-use Rattle.window.proofs.Laws.Row.{Goes}
+use Rattle.window.specs.Row.{Goes}
 
 -- ---- Whether the header ends inside the part
 
