@@ -7,6 +7,7 @@ pub mod Frame
 pub mod Back
 pub mod Calls
 pub mod Sharp
+pub mod Alone
 pub mod Skies
 pub mod RadianceValues
 pub mod RadianceComponent

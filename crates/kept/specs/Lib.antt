@@ -2,5 +2,6 @@
 pub mod Longest
 pub mod Numbered
 pub mod Back
+pub mod Alone
 pub mod Skies
 pub mod Radiance

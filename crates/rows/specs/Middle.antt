@@ -1,5 +1,5 @@
 -- A row in the middle of bytes: what stands before it and behind it changes nothing but places.
-use Prim.Native.Nat.{ℕ, _+_, _<_}
+use Prim.Native.Nat.{ℕ, _+_, _<_, _≤_}
 use mathlib.Core.List.{List, _++_}
 use mathlib.Core.Path.{_≡_}
 use lib.ListN.{length}
@@ -28,7 +28,11 @@ abbrev pub Behind : RowRule → Type 0
 Behind rule =
     (src rest : List ℕ) (at : ℕ) (store : List ℕ) (width : ℕ) → Settled (length src) (rule src at store width .0) → rule (src ++ rest) at store width ≡ rule src at store width
 
--- both
+-- from the end of the bytes on no answer is settled
+abbrev pub NonePast : RowRule → Type 0
+NonePast rule = (src : List ℕ) (at : ℕ) (store : List ℕ) (width : ℕ) → length src ≤ at → Settled (length src) (rule src at store width .0) → ⊥
+
+-- bytes before it and behind it
 abbrev pub Anywhere : RowRule → Type 0
 Anywhere rule =
     (pre src rest : List ℕ) (at : ℕ) (store : List ℕ) (width : ℕ) → Settled (length src) (rule src at store width .0)

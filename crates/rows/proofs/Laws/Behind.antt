@@ -18,13 +18,13 @@ use Rattle.channels.specs.Channel.{Chan, chan, Count, span, fault, CountRule, c
 use Rattle.channels.specs.Channels.{Chans, chans, afterChannel, chansTurn, chansOut, channelsOf}
 use Rattle.channels.proofs.Laws.Channel.{channel-cases, turn-done, turn-fault, turn-span}
 use Rattle.channels.proofs.Laws.Channels.{chans-cases}
-use Rattle.flat.specs.Flat.{Flat, FlatRule, crateFlat, fourTo, goesOn, isRepeat, flatTurn, flatOut, flatOf, ordinary, repeated, stored}
+use Rattle.flat.specs.Flat.{Flat, FlatRule, flat, crateFlat, fourTo, goesOn, isRepeat, flatTurn, flatOut, flatOf, ordinary, repeated, stored}
 use Rattle.flat.proofs.Laws.Flat.{flat-cases}
 use Rattle.rows.specs.declared.kind.Kind.{Kind}
 use Rattle.rows.specs.declared.kind.Kind.the-variants as kind
 use Rattle.rows.specs.Row.{RowParts, isFlatWidth, isMark, kindOf, restBy, rowBy, early, proved, crateStart, crateParts, crateRow}
-use Rattle.rows.specs.Middle.{Settled, Behind}
-use Rattle.rows.proofs.Laws.Row.{kind-flat, kind-channels, kind-pixel, kind-cases, early-other}
+use Rattle.rows.specs.Middle.{Settled, Behind, NonePast}
+use Rattle.rows.proofs.Laws.Row.{kind-none, kind-flat, kind-channels, kind-pixel, kind-cases, early-other}
 
 -- an answer, with its store, that is settled
 abbrev pub Firm : List ℕ → Taken × List ℕ → Type 0
@@ -271,6 +271,20 @@ module _ (rule : FlatRule) (behind : OnesBehind rule) (src rest : List ℕ) (sta
       halted : {a b : Taken × List ℕ} → _≡_ {A = Turn Flat (Taken × List ℕ)} (halt a) (halt b) → a ≡ b
       halted k = cc
 
+-- from the end of the bytes on no answer is settled
+pub flat-past : (rule : FlatRule) (src : List ℕ) (at : ℕ) (store : List ℕ) (start wanted : ℕ) → length src ≤ at → Firm src (flatOf rule src at store start wanted) → ⊥
+unfolding flatOf
+flat-past rule src at store start wanted h = run-keeps (flatTurn rule src start) flatOut P Q step (λ y p f. f refl) (length src + 1) (flat at start wanted 0 store) h
+  where
+    P : Flat → Type 0
+    P y = length src ≤ y .at
+
+    Q : Taken × List ℕ → Type 0
+    Q a = Firm src a → ⊥
+
+    step : (y : Flat) → P y → Leads P Q (flatTurn rule src start y)
+    step y p = flat-cases rule src start y (Leads P Q) (λ w l e. absurd (omega arith)) (λ w l e. absurd (omega arith)) (λ w f. f refl) (λ f. omega arith)
+
 -- ---- The row
 
 -- what the start of a row is, where its bytes are there
@@ -311,6 +325,14 @@ module _ (parts : RowParts) (behind : PartsBehind parts) (src rest : List ℕ) (
       go true e = simp e (behind .flat src rest at store 0 width (simp e at firm))
       go false e = simp e (by-kind (simp e at firm))
 
+pub row-past : (parts : RowParts)
+    → ((src : List ℕ) (at : ℕ) (store : List ℕ) (start wanted : ℕ) → length src ≤ at → Firm src (parts .flat src at store start wanted) → ⊥) → NonePast (rowBy parts)
+unfolding rowBy
+row-past parts past src at store width h =
+    by-test (λ (a : Taken × List ℕ). Firm src a → ⊥) (isFlatWidth width)
+    (λ t. past src at store 0 width h)
+    (λ t. rw (← kind-none src at h) (λ f. f refl))
+
 -- ---- The crate reading
 
 crate-count-behind : CountBehind crateCount
@@ -341,6 +363,10 @@ module _ (src rest : List ℕ) (at : ℕ) (store : List ℕ) where
           (λ h e no. sym (early-other (src ++ rest) at store (λ f. e (sym (byte-same src rest at h) ∙ f))) ∙ early-other src at store e)
           (λ h e m no. early-same h)
           (λ h e m no. rw (early-same h, byte-same src rest at (omega arith), byte-same src rest (at + 3) (omega arith)))
+
+pub crate-past : NonePast crateRow
+unfolding crateRow crateParts
+crate-past = row-past crateParts (flat-past crateFlat)
 
 pub crate-behind : Behind crateRow
 unfolding crateRow crateParts
