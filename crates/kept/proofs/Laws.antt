@@ -6,6 +6,7 @@ pub mod Samples
 pub mod Frame
 pub mod Back
 pub mod Calls
+pub mod Lent
 pub mod Sharp
 pub mod Alone
 pub mod Skies

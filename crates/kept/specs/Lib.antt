@@ -3,5 +3,6 @@ pub mod Longest
 pub mod Numbered
 pub mod Back
 pub mod Alone
+pub mod Lent
 pub mod Skies
 pub mod Radiance

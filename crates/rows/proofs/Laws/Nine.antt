@@ -10,12 +10,12 @@ use Rattle.steps.specs.declared.Taken.{Taken}
 use Rattle.steps.specs.declared.Taken.the-variants.{Done, Fault}
 use Rattle.steps.proofs.Laws.Turns.{by-test, Leads, run-keeps}
 use Rattle.channels.specs.Channel.{Chan, chan, crateCount, channelOut, channelTurn, channelOf}
-use Rattle.channels.specs.Channels.{Chans, chans, chansOut, chansTurn, channelsOf}
+use Rattle.channels.specs.Channels.{chans, chansOut, chansTurn, channelsOf}
 use Rattle.channels.proofs.Laws.Channels.{chans-cases}
-use Rattle.flat.specs.Flat.{Flat, flat, crateFlat, flatOut, flatTurn, flatOf}
+use Rattle.flat.specs.Flat.{flat, crateFlat, flatOut, flatTurn, flatOf}
 use Rattle.flat.proofs.Laws.Flat.{flat-cases}
 use Rattle.rows.specs.declared.kind.Kind.{Kind}
-use Rattle.rows.specs.Row.{isFlatWidth, kindOf, restBy, rowBy, crateStart, crateParts, crateRow}
+use Rattle.rows.specs.Row.{isFlatWidth, restBy, rowBy, crateStart, crateParts, crateRow}
 use Rattle.rows.proofs.Laws.Row.{kind-cases}
 
 -- no fault, or 9
