@@ -125,12 +125,12 @@ DOORWHISP_HERE const char *doorwhisp_words(uint64_t refusal) {
 
 /*
  * How many bytes the rows of a picture take at least, for sizes up to 65,535 as doorwhisp_read_header answers them.
- * A file with fewer bytes after its header is refused by 9 in some row, so that no memory need be had for it. This is
- * worked out by hand and tested, not proved.
+ * A file with fewer bytes after its header is refused by 9 in some row, so that no memory need be had for it: that is
+ * proved of doorwhisp_read (crates/kept/specs/Least.antt has this definition).
  */
 DOORWHISP_HERE uint64_t doorwhisp_least(uint64_t width, uint64_t height) {
     const uint64_t rows = 4 * (width < 3 ? width : 3) * height;
-    return height > 0 && width >= 8 && width <= 127 ? rows - 1 : rows;
+    return height > 0 && width >= 8 && width <= 32767 ? rows - 1 : rows;
 }
 
 /* ---- Reading ---- */

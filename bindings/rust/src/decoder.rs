@@ -217,11 +217,11 @@ impl<'a> HdrDecoder<'a> {
     }
 }
 
-/// How many bytes the rows of a picture take at least; `docs/DECISIONS.md` says why.
+/// How many bytes the rows of a picture take at least, as proved of the reader (`crates/kept/specs/Least.antt`).
 fn least_bytes(head: Head) -> usize {
     let rows = 4 * head.width.min(3) * head.height;
     match head.width {
-        8..=127 => rows.saturating_sub(1),
+        8..=32_767 => rows.saturating_sub(1),
         _ => rows,
     }
 }

@@ -1,4 +1,4 @@
-//! How few bytes hold a picture's rows: that many are read, and fewer are told before memory is asked for.
+//! How few bytes hold a picture's rows: the shortest are read, and too few are told before memory is asked for.
 
 use doorwhisp::{HdrDecoder, HdrError};
 
@@ -25,6 +25,15 @@ fn shortest_rows(width: usize, height: usize) -> Vec<u8> {
         rows.extend([2, 2, 0, width as u8, 255, 7, 255, 7, 255, 7, 255]);
     }
     rows
+}
+
+/// How many bytes are wanted. From width 128 on, where a coded row is longer, one is given away.
+fn least(width: usize, height: usize) -> usize {
+    match width {
+        1 | 2 => 4 * width * height,
+        8..=32_767 => 12 * height - 1,
+        _ => 12 * height,
+    }
 }
 
 /// Bytes that a row might be made of, drawn so that old runs, marks and long counts are often met.
@@ -56,6 +65,8 @@ fn the_shortest_rows_are_read() {
     for width in WIDTHS {
         for height in 1..4 {
             let rows = shortest_rows(width, height);
+            let given_away = usize::from((128..=32_767).contains(&width));
+            assert_eq!(rows.len(), least(width, height) + given_away);
             let file = [header(width, height), rows].concat();
             let samples = HdrDecoder::new(&file).decode().unwrap();
             assert_eq!(samples.len(), 3 * width * height);
@@ -68,7 +79,7 @@ fn one_byte_less_is_told_and_no_such_file_is_read() {
     let mut bytes = Bytes(1);
     for width in WIDTHS {
         for height in 1..4 {
-            let least = shortest_rows(width, height).len();
+            let least = least(width, height);
             let found = least - 1;
             let mut out = vec![0.0; 3 * width * height];
             for _ in 0..40_000 / width.max(100) {

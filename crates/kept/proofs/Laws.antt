@@ -1,6 +1,7 @@
 -- The theorems over the definitions in `specs/`, and the steps to them.
 pub mod Longest
 pub mod Reached
+pub mod Least
 pub mod Numbered
 pub mod Samples
 pub mod Frame

@@ -1,5 +1,6 @@
 -- What the inspector is handed: sentences over the definitions that the calls promise.
 pub mod Longest
+pub mod Least
 pub mod Numbered
 pub mod Back
 pub mod Alone
