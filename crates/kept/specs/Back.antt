@@ -13,7 +13,7 @@ use Rattle.steps.specs.Answer.{Answer, done}
 use Rattle.pixel.specs.declared.Pixel.{Pixel}
 use Rattle.pixel.specs.Units.{plain}
 use Rattle.pixel.specs.Rgbe.{peak}
-use Rattle.loss.specs.Kept.{KeptAll, zeros}
+use Rattle.loss.specs.Kept.{Numbers, Between, InRange, Lies, step, KeptAll, zeros}
 use Rattle.header.specs.declared.Head.{Head}
 use Rattle.header.specs.Head.{head}
 use Rattle.flat.specs.Flat.{isRepeat}
@@ -39,20 +39,9 @@ pub record Sizes (w h : ℕ) : Type 0 where
   pub wide : w ≤ 65535
   pub high : h ≤ 65535
 
--- "finite", and not "negative"
-pub record Numbers (p : Pixel) : Type 0 where
-  pub r : T (plain (p .r))
-  pub g : T (plain (p .g))
-  pub b : T (plain (p .b))
-
--- "0 or from 2^-32 to below 2^31"
-abbrev pub Between : ℕ → Type 0
-Between v = (v ≡ 0) ⊎ ((2 ^ 117 ≤ v) × (v < 2 ^ 180))
-
 -- "all samples are finite, none is negative and each pixel's largest is 0 or from 2^-32 to below 2^31", of n pixels
-pub record AllInRange (samples : List Float) (n : ℕ) : Type 0 where
-  pub numbers : (k : ℕ) → k < n → Numbers (pixel samples k)
-  pub largest : (k : ℕ) → k < n → Between (peak (pixel samples k))
+abbrev pub AllInRange : List Float → ℕ → Type 0
+AllInRange samples n = (k : ℕ) → k < n → InRange (pixel samples k)
 
 -- "room and limits enough": the limits, and the output and row store that are lent
 pub record Enough (w h widest highest : ℕ) (out : List Float) (store : List ℕ) : Type 0 where
@@ -62,15 +51,6 @@ pub record Enough (w h widest highest : ℕ) (out : List Float) (store : List �
   pub row : 4 * w ≤ length store
 
 -- ---- What comes back
-
--- "the pixel's largest lies from 2^(e-1) to below 2^e": n is e + 149
-pub record Lies (p : Pixel) (n : ℕ) : Type 0 where
-  pub from : 2 ^ (n - 1) ≤ peak p
-  pub below : peak p < 2 ^ n
-
--- "A step is 2^(e-8)"
-abbrev pub step : ℕ → ℕ
-step n = 2 ^ (n - 8)
 
 -- the reader is done, answers width and height, and takes so many bytes
 abbrev pub doneWith : ℕ → ℕ → ℕ → Answer Head

@@ -8,16 +8,29 @@ use Rattle.pixel.specs.declared.Pixel.{Pixel}
 use Rattle.pixel.specs.Units.{mag, plain, ofUnits}
 use Rattle.pixel.specs.Rgbe.{peak}
 
--- 'All samples are finite, none is negative and each pixel's largest is 0 or from 2^-32 to below 2^31': 2^117 and 2^180 times 2^-149.
-pub record InRange (p : Pixel) : Type 0 where
+-- 'finite', and not 'negative'
+pub record Numbers (p : Pixel) : Type 0 where
   pub r : T (plain (p .r))
   pub g : T (plain (p .g))
   pub b : T (plain (p .b))
-  pub largest : (peak p ≡ 0) ⊎ ((2 ^ 117 ≤ peak p) × (peak p < 2 ^ 180))
 
--- 'A step is 2^(e-8) where the pixel's largest lies from 2^(e-1) to below 2^e': the largest has e + 149 binary digits.
-unfoldable pub stepOf : Pixel → ℕ
-stepOf p = 2 ^ (size (peak p) - 8)
+-- '0 or from 2^-32 to below 2^31': 2^117 and 2^180 times 2^-149
+abbrev pub Between : ℕ → Type 0
+Between v = (v ≡ 0) ⊎ ((2 ^ 117 ≤ v) × (v < 2 ^ 180))
+
+-- 'all samples are finite, none is negative and each pixel's largest is 0 or from 2^-32 to below 2^31', of one pixel
+pub record InRange (p : Pixel) : Type 0 where
+  pub numbers : Numbers p
+  pub largest : Between (peak p)
+
+-- 'the pixel's largest lies from 2^(e-1) to below 2^e': n is e + 149
+pub record Lies (p : Pixel) (n : ℕ) : Type 0 where
+  pub from : 2 ^ (n - 1) ≤ peak p
+  pub below : peak p < 2 ^ n
+
+-- 'A step is 2^(e-8)'
+abbrev pub step : ℕ → ℕ
+step n = 2 ^ (n - 8)
 
 -- the sample x 'comes back', as y, a number again, 'at most its value and less than one step below it'
 pub record Kept (step : ℕ) (x y : Float) : Type 0 where

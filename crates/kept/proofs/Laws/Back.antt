@@ -18,7 +18,7 @@ use Rattle.pixel.specs.declared.Pixel.{Pixel}
 use Rattle.pixel.specs.declared.Rgbe.{Rgbe}
 use Rattle.pixel.specs.Rgbe.{crateUnits, pixelOf, peak, dark, bytesOf}
 use Rattle.loss.specs.Written.{Written}
-use Rattle.loss.specs.Kept.{InRange, stepOf, KeptAll, zeros}
+use Rattle.loss.specs.Kept.{InRange, Lies, step, KeptAll, zeros}
 use Rattle.pixel.proofs.Laws.Digits.{size-gt}
 use Rattle.loss.proofs.Laws.Kept.{kept-at-a-pixel, black-back}
 use Rattle.loss.proofs.Laws.Written.{written-bytes}
@@ -30,7 +30,8 @@ use Rattle.reader.specs.Inner.{samplesFrom}
 use Rattle.reader.specs.Read.{cratePixel, readBy}
 use Rattle.frames.specs.Samples.{pixelAt, packed}
 use Rattle.frames.specs.Frame.{fileOf}
-use Rattle.kept.specs.Back.{pixel, Sizes, AllInRange, Enough, Beyond, Lies, step, NoOnes, ComesBack, ComesBack4}
+use Rattle.kept.specs.Radiance.{isOldRun}
+use Rattle.kept.specs.Back.{pixel, Sizes, AllInRange, Enough, Beyond, NoOnes, ComesBack, ComesBack4}
 use Rattle.kept.proofs.Laws.Samples.{length-samples, pixel-of-samples, bytes-of-pixel}
 use Rattle.kept.proofs.Laws.Frame.{frame-back}
 
@@ -70,17 +71,14 @@ read-back4-by rowRule rule rows w h px sizes none rest widest highest out store 
 
 -- ---- No pixel that is packed is taken for a repeat: black is 0,0,0, and of any other one byte is at least 128
 
-ones : Rgbe → Bool
-ones q = eqb (q .r) 1 && (eqb (q .g) 1 && eqb (q .b) 1)
-
 and-no : (a b : Bool) → b ≡ false → (a && b) ≡ false
 and-no true b e = e
 and-no false b e = refl
 
-no-ones : (q : Rgbe) → Written q → ones q ≡ false
-unfolding ones
+no-ones : (q : Rgbe) → Written q → isOldRun q ≡ false
+unfolding isOldRun
 no-ones q =
-    ⊎-elim (λ e. ap ones e)
+    ⊎-elim (λ e. ap isOldRun e)
     (λ h. ⊎-elim (λ r. simp (high (q .r) r)) (λ w. and-no (eqb (q .r) 1) _ (⊎-elim (λ g. simp (high (q .g) g)) (λ b. and-no (eqb (q .g) 1) _ (high (q .b) b)) w)) (h .0))
   where
     high : (x : ℕ) → 128 ≤ x → eqb x 1 ≡ false
@@ -90,27 +88,8 @@ packed-bytes : (samples : List Float) (n k : ℕ) → k < n → rgbeAt (packed s
 packed-bytes samples n k h = bytes-of-pixel samples 0 n k h ∙ ap (λ (i : ℕ). bytesOf (pixelAt samples i)) (zero-add (3 * k))
 
 packed-no-ones : (samples : List Float) (w n : ℕ) → NoOnes (packed samples 0 n) w n
-unfolding isRepeat ones
-packed-no-ones samples w n flat k h = ap ones (packed-bytes samples n k h) ∙ no-ones (bytesOf (pixel samples k)) (written-bytes (pixel samples k))
-
--- ---- A pixel whose largest lies from 2^(n-1) to below 2^n has n binary digits
-
-lies-size : (p : Pixel) (n : ℕ) → Lies p n → size (peak p) ≡ n
-lies-size p n l =
-    let low : n - 1 < size (peak p) = size-gt (peak p) (n - 1) (l .from) in
-    let high : size (peak p) ≤ n = size-le (peak p) n (l .below) in
-    omega (arith, low, high)
-
--- and every pixel that is not black has such an n
-pub lies-somewhere : (p : Pixel) → 0 < peak p → Lies p (size (peak p))
-lies-somewhere p h =
-    let some : 0 < size (peak p) = size-gt (peak p) 0 h in
-    record { from = size-reaches (peak p) (size (peak p) - 1) (omega arith); below = size-lt (peak p) }
-
-in-range : (samples : List Float) (n k : ℕ) → AllInRange samples n → k < n → InRange (pixel samples k)
-in-range samples n k all h =
-    let s = all .numbers k h in
-    record { r = s .r; g = s .g; b = s .b; largest = all .largest k h }
+unfolding isRepeat isOldRun
+packed-no-ones samples w n flat k h = ap isOldRun (packed-bytes samples n k h) ∙ no-ones (bytesOf (pixel samples k)) (written-bytes (pixel samples k))
 
 -- ---- What is asked of a rule for a pixel
 
@@ -135,7 +114,7 @@ module _ (rowRule : RowRule) (rule : SampleRule) (rows : RowsBack rowRule) where
       let is = pixels-back-by w h samples sizes rest widest highest out store enough in
       record {
         answered = back .answered;
-        kept = λ k n l lies. subst (KeptAll (step n) (pixel samples k)) (sym (is k l)) (pixels .kept (pixel samples k) n (in-range samples (w * h) k all l) lies);
+        kept = λ k n l lies. subst (KeptAll (step n) (pixel samples k)) (sym (is k l)) (pixels .kept (pixel samples k) n (all k l) lies);
         black = λ k l none. is k l ∙ pixels .black (pixel samples k) none;
         beyond = back .beyond;
       }
@@ -143,9 +122,9 @@ module _ (rowRule : RowRule) (rule : SampleRule) (rows : RowsBack rowRule) where
 -- ---- The crate reading
 
 pub crate-pixels : PixelsBack cratePixel
-unfolding cratePixel stepOf
+unfolding cratePixel
 crate-pixels = record {
-  kept = λ p n range lies. subst (λ (d : ℕ). KeptAll (step d) p (pixelOf crateUnits (bytesOf p))) (lies-size p n lies) (kept-at-a-pixel p range);
+  kept = λ p n range lies. kept-at-a-pixel p range n lies;
   black = λ p e. black-back p (subst (λ (v : ℕ). v ≤ dark) (sym e) zero-le);
 }
 

@@ -14,6 +14,7 @@ use lib.Seq.{take-at}
 use Rattle.steps.specs.Answer.{Answer}
 use Rattle.steps.proofs.Laws.Answer.{Passed}
 use Rattle.pixel.specs.Rgbe.{peak, tooBright}
+use Rattle.loss.specs.Kept.{Between}
 use Rattle.header.specs.declared.Head.{Head}
 use Rattle.parts.proofs.Laws.Cut.{lt-or-ge}
 use Rattle.rows.specs.Row.{RowRule, crateRow}
@@ -26,7 +27,7 @@ use Rattle.frames.specs.Frame.{frameOf, fileOf}
 use Rattle.writer.specs.Write.{frameChecks, brightChecked, stored, writeOf}
 use Rattle.frames.proofs.Laws.Samples.{first-named}
 use Rattle.writer.proofs.Laws.Told.{Stored, write-told, write4-told}
-use Rattle.kept.specs.Back.{pixel, Sizes, Between, AllInRange, NoOnes, ReadBack, ReadBack4, CallsComeBack, CallsComeBack4, IsWritten}
+use Rattle.kept.specs.Back.{pixel, Sizes, AllInRange, NoOnes, ReadBack, ReadBack4, CallsComeBack, CallsComeBack4, IsWritten}
 use Rattle.kept.proofs.Laws.Back.{PixelsBack, crate-pixels, read-back-by, read-back4-by}
 
 -- ---- The sizes of a frame that was written
@@ -82,7 +83,7 @@ not-bright samples k b =
 none-bright : (samples : List Float) (n : ℕ) → AllInRange samples n → n ≤ firstBright samples 0 n
 none-bright samples n all =
     let k : ℕ = firstBright samples 0 n in
-    ⊎-elim (λ l. absurd (false≢true (sym (not-bright samples k (all .largest k l)) ∙ first-named samples n k refl l .bright))) (λ l. l) (lt-or-ge k n)
+    ⊎-elim (λ l. absurd (false≢true (sym (not-bright samples k (all k l .largest)) ∙ first-named samples n k refl l .bright))) (λ l. l) (lt-or-ge k n)
 
 pub in-range-written : (w h : ℕ) (samples : List Float) → Sizes w h → length samples ≡ 3 * (w * h) → AllInRange samples (w * h) → IsWritten w h samples
 unfolding writeOf brightChecked stored

@@ -9,11 +9,11 @@ use lib.Ieee.{Float, nan}
 use Rattle.pixel.specs.declared.Pixel.{Pixel}
 use Rattle.pixel.specs.Units.{mag}
 use Rattle.pixel.specs.Rgbe.{crateUnits, pixelOf, peak, bytesOf}
-use Rattle.loss.specs.Kept.{Kept}
+use Rattle.loss.specs.Kept.{Kept, Lies, step}
 use Rattle.loss.proofs.Laws.Sharp.{next-dark, too-bright}
 use Rattle.rows.specs.Row.{crateRow}
 use Rattle.reader.specs.Read.{cratePixel}
-use Rattle.kept.specs.Back.{pixel, Sizes, Enough, Lies, step, ComesBack, nextBelow, firstAbove, oneRed, Lost}
+use Rattle.kept.specs.Back.{pixel, Sizes, Enough, ComesBack, nextBelow, firstAbove, oneRed, Lost}
 use Rattle.kept.proofs.Laws.Back.{pixels-back}
 
 not-between : (v low high : ℕ) → 0 < v → (v < low) ⊎ (high ≤ v) → (v ≡ 0) ⊎ ((low ≤ v) × (v < high)) → ⊥

@@ -3,17 +3,17 @@ use mathlib.Core.Path.{_≡_, refl, sym, ap, _∙_, subst}
 use mathlib.Core.Bool.{true, false}
 use mathlib.Core.Logic.{⊎-elim}
 use Prim.Native.Nat.{ℕ, _+_, _-_, _*_, _/_, _^_, _≤_, _<_, zero-le}
-use native.Mathlib.Nat.{mod-lt, zero-mul, lt-of-le-of-lt, lt-of-lt-of-le}
+use native.Mathlib.Nat.{mod-lt, zero-mul, not-suc-le-zero, lt-of-le-of-lt, lt-of-lt-of-le}
 use native.Mathlib.Omega.{arith}
 use lib.Dec.{T, eqb→eq, lit<, lit≤}
 use lib.Pow.{pow-pos, split}
 use lib.Ieee.{Float, nan, inf, fin, binary32, up, down, fits, size}
-use lib.Ieee.Digits.{Equals, size-lt, size-le}
+use lib.Ieee.Digits.{Equals, size-lt, size-le, size-reaches}
 use Rattle.pixel.specs.declared.Pixel.{Pixel}
 use Rattle.pixel.specs.declared.Rgbe.{Rgbe}
 use Rattle.pixel.specs.Units.{ofUnits, mag, plain}
 use Rattle.pixel.specs.Rgbe.{crateScale, crateUnits, pixelOf, peak, dark, byteOf, bytesOf}
-use Rattle.loss.specs.Kept.{InRange, stepOf, Kept, KeptAll, zeros}
+use Rattle.loss.specs.Kept.{InRange, Lies, step, Kept, KeptAll, zeros}
 use Rattle.pixel.proofs.Laws.Units.{zero-exact, exact-plain, mag-is}
 use Rattle.pixel.proofs.Laws.Samples.{shape, own-mag}
 use Rattle.loss.proofs.Laws.Scales.{doc-at, scales-meet}
@@ -65,9 +65,27 @@ kept x N l h u =
     parts-lt : (a b n y u : ℕ) → a + b ≡ n → b < u → y ≡ a → n < y + u
     parts-lt a b n y u h l e = omega arith
 
--- ---- the two cases of the domain
-light-kept : (p : Pixel) → 2 ^ 117 ≤ peak p → peak p < 2 ^ 180 → KeptAll (stepOf p) p (pixelOf crateUnits (bytesOf p))
-unfolding stepOf
+-- ---- a pixel whose largest lies from 2^(n-1) to below 2^n has n binary digits
+
+pub lies-size : (p : Pixel) (n : ℕ) → Lies p n → size (peak p) ≡ n
+lies-size p n l =
+    let low : n - 1 < size (peak p) = size-gt (peak p) (n - 1) (l .from) in
+    let high : size (peak p) ≤ n = size-le (peak p) n (l .below) in
+    omega (arith, low, high)
+
+-- and every pixel that is not black has such an n
+pub lies-somewhere : (p : Pixel) → 0 < peak p → Lies p (size (peak p))
+lies-somewhere p h =
+    let some : 0 < size (peak p) = size-gt (peak p) 0 h in
+    record { from = size-reaches (peak p) (size (peak p) - 1) (omega arith); below = size-lt (peak p) }
+
+-- a black one has none
+black-lies : (p : Pixel) (n : ℕ) → peak p ≡ 0 → Lies p n → ⊥
+black-lies p n e l = not-suc-le-zero (lt-of-lt-of-le (pow-pos (n - 1)) (subst (λ (v : ℕ). 2 ^ (n - 1) ≤ v) e (l .from)))
+
+-- ---- demand 3 at a pixel
+
+light-kept : (p : Pixel) → 2 ^ 117 ≤ peak p → peak p < 2 ^ 180 → KeptAll (step (size (peak p))) p (pixelOf crateUnits (bytesOf p))
 light-kept p l h =
     let N = size (peak p) in
     let low : 118 ≤ N = size-gt (peak p) 117 l in
@@ -80,20 +98,7 @@ light-kept p l h =
       b = kept (p .b) N low high (under _ (b-peak p));
     })
 
-zero-kept : (p : Pixel) → peak p ≡ 0 → KeptAll (stepOf p) p (pixelOf crateUnits (bytesOf p))
-unfolding stepOf
-zero-kept p h =
-    subst (KeptAll (stepOf p) p) (sym (black-back p (subst (λ (n : ℕ). n ≤ dark) (sym h) zero-le)))
-    (record { r = zero (p .r) (r-peak p); g = zero (p .g) (g-peak p); b = zero (p .b) (b-peak p) })
-  where
-    none : (a v z u : ℕ) → a ≤ v → v ≡ 0 → z ≡ 0 → 0 < u → (z ≤ a) × (a < z + u)
-    none a v z u l e f h = (omega arith, omega arith)
-
-    zero : (x : Float) → mag x ≤ peak p → Kept (stepOf p) x (ofUnits 0)
-    zero x l =
-        let k = none (mag x) (peak p) (mag (ofUnits 0)) (stepOf p) l h (mag-is _ _ zero-exact) (pow-pos (size (peak p) - 8)) in
-        record { number = exact-plain (ofUnits 0) 0 zero-exact; at-most = k .0; near = k .1 }
-
--- demand 3 at a pixel
-pub kept-at-a-pixel : (p : Pixel) → InRange p → KeptAll (stepOf p) p (pixelOf crateUnits (bytesOf p))
-kept-at-a-pixel p d = ⊎-elim (zero-kept p) (λ h. light-kept p (h .0) (h .1)) (d .largest)
+pub kept-at-a-pixel : (p : Pixel) → InRange p → (n : ℕ) → Lies p n → KeptAll (step n) p (pixelOf crateUnits (bytesOf p))
+kept-at-a-pixel p range n lies =
+    ⊎-elim (λ e. absurd (black-lies p n e lies))
+    (λ h. subst (λ (d : ℕ). KeptAll (step d) p (pixelOf crateUnits (bytesOf p))) (lies-size p n lies) (light-kept p (h .0) (h .1))) (range .largest)
