@@ -1,14 +1,13 @@
 -- What each call leaves in the lent answer and in every other lent list: the promise of the call below it, as eight numbers.
-use Prim.Native.Nat.{ℕ, _*_, _+_}
+use Prim.Native.Nat.{ℕ}
 use mathlib.Core.List.{List}
 use mathlib.Core.Path.{_≡_}
 use lib.Ieee.{Float}
-use Rattle.steps.specs.Amount.{amountOf}
 use Rattle.pixel.specs.Rgbe.{crateUnits, pixelOf, packedOf}
 use Rattle.header.specs.Head.{headerOf}
 use Rattle.rows.specs.Row.{crateRow}
-use Rattle.reader.specs.Read.{cratePixel, readBy}
-use Rattle.writer.specs.Write.{lengthOf, length4Of, worstAnswer, writeOf, write4Of}
+use Rattle.reader.specs.Read.{outputSize, cratePixel, readBy}
+use Rattle.writer.specs.Write.{lengthOf, length4Of, worstAnswer, writeOf, write4Of, expectedSize}
 use Rattle.numbers.specs.Numbers.{sizes, single, numbers, counted, withOne, withTwo}
 use Rattle.doorwhisp.specs.Pixels.{pixel, rgbe, samplesOf, packedInto}
 
@@ -25,7 +24,7 @@ Read bytes widest highest out store answer out′ store′ =
 
 -- `doorwhisp_output_buffer_size`, by `reader::output_buffer_size`
 abbrev pub OutputBufferSize : ℕ → ℕ → List ℕ → Type 0
-OutputBufferSize w h answer = answer ≡ numbers single (counted (amountOf (w * h * 3)))
+OutputBufferSize w h answer = answer ≡ numbers single (counted (outputSize w h))
 
 -- ---- The writer
 
@@ -51,7 +50,7 @@ Write4 w h pixels out answer out′ = (answer, out′) ≡ withOne single (write
 
 -- `doorwhisp_expected_buffer_size`, by `writer::expected_buffer_size`
 abbrev pub ExpectedBufferSize : ℕ → ℕ → List ℕ → Type 0
-ExpectedBufferSize w h answer = answer ≡ numbers single (counted (amountOf (w * h * 4 + 1024)))
+ExpectedBufferSize w h answer = answer ≡ numbers single (counted (expectedSize w h))
 
 -- ---- One pixel
 

@@ -86,11 +86,3 @@ paperOf (Refused refusal) = refusalOf refusal
 -- what `header::read` promises
 abbrev pub HeaderPromise : List ℕ → ℕ → ℕ → HeadAnswer → Type 0
 HeaderPromise bytes widest highest answer = paperOf answer ≡ headerOf bytes widest highest
-
--- ---- What its parts answer: the sizes alone, and all four fields
-
-unfoldable pub sizesAnswer : List ℕ → List ℕ → ℕ → ℕ → ℕ → Answer Head
-sizesAnswer height width taken widest highest = checked refuse (sizeChecks height width widest highest) (done (headBy height width taken))
-
-unfoldable pub fieldsAnswer : Fields → ℕ → ℕ → Answer Head
-fieldsAnswer f widest highest = checked refuse (fieldChecks (axesOf (f .first) (f .third)) f widest highest) (done (headOf f))

@@ -15,7 +15,8 @@ ghost use Prim.Native.Nat.{_≤_};
 ghost use lib.ListN.{length};
 ghost use Rattle.steps.specs.Answer.{refuse};
 ghost use Rattle.words.specs.Fields.{fieldsAt};
-ghost use Rattle.header.specs.Head.{taking, sizesAnswer, fieldsAnswer, paperOf, HeaderPromise};
+ghost use Rattle.header.specs.Head.{taking, paperOf, HeaderPromise};
+ghost use Rattle.header.specs.Inner.{sizesAnswer, fieldsAnswer};
 
 // What a header says, and how many bytes it takes.
 pub struct Head {

@@ -5,6 +5,8 @@ use mathlib.Core.Path.{_≡_}
 use lib.ListN.{length}
 use lib.Dec.{ltb, eqb}
 use lib.Ieee.{Float}
+use Rattle.steps.specs.Amount.{amountOf}
+use Rattle.steps.specs.declared.amount.Amount.{Amount}
 use Rattle.steps.specs.Answer.{Answer, done, refused, refuse, refusalOf, Check, check, checked}
 use Rattle.pixel.specs.Rgbe.{crateUnits, pixelOf}
 use Rattle.header.specs.declared.Head.{Head}
@@ -50,6 +52,11 @@ paperOf (read.Refused refusal) = refusalOf refusal
 abbrev pub ReadPromiseBy : RowRule → SampleRule → List ℕ → ℕ → ℕ → List Float → List ℕ → ReadAnswer → List Float → List ℕ → Type 0
 ReadPromiseBy rowRule rule bytes widest highest out store answer out′ store′ =
     (paperOf answer, out′, store′) ≡ readBy rowRule rule bytes widest highest out store
+
+-- ---- How many samples a frame has: "none" exactly where the Rust's product passes 2^64 - 1
+
+abbrev pub outputSize : ℕ → ℕ → Amount
+outputSize w h = amountOf (w * h * 3)
 
 -- ---- The crate reading
 

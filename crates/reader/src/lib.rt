@@ -12,10 +12,9 @@ ghost use mathlib.Core.Path.{_≡_};
 ghost use Prim.Native.Nat.{_+_, _*_, _≤_};
 ghost use lib.ListN.{length};
 ghost use Rattle.steps.specs.Answer.{refuse};
-ghost use Rattle.steps.specs.Amount.{amountOf};
 ghost use Rattle.rows.specs.Row.{crateRow};
 ghost use Rattle.reader.specs.Frame.{along, storedOf, stepOf, rowsOf};
-ghost use Rattle.reader.specs.Read.{cratePixel, paperOf, framed, ReadPromise};
+ghost use Rattle.reader.specs.Read.{outputSize, cratePixel, paperOf, framed, ReadPromise};
 ghost use Rattle.reader.specs.Inner.{frameAnswer};
 
 // What reading a file answers: the sizes and the count of bytes taken, or a refusal.
@@ -118,7 +117,7 @@ pub fn read(
 
 // How many samples a frame has.
 pub fn output_buffer_size(width: usize, height: usize) -> Amount
-    ensures { λ r. ⌜ r ≡ amountOf (width * height * 3) ⌝ }
+    ensures { λ r. ⌜ r ≡ outputSize width height ⌝ }
 {
     let area = amount::product(width, height);
     match area {

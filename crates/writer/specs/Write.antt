@@ -96,6 +96,10 @@ WritePromise w h samples out answer out′ = (paperOf answer, out′) ≡ writeO
 abbrev pub Write4Promise : ℕ → ℕ → List ℕ → List ℕ → WriteAnswer → List ℕ → Type 0
 Write4Promise w h px out answer out′ = (paperOf answer, out′) ≡ write4Of w h px out
 
--- `writer::expected_buffer_size`: its formula, and "none" where that passes 2^64 - 1
+-- the Rust's formula for the length of a file: "none" exactly where it passes 2^64 - 1
+abbrev pub expectedSize : ℕ → ℕ → Amount
+expectedSize w h = amountOf (w * h * 4 + 1024)
+
+-- `writer::expected_buffer_size`
 abbrev pub ExpectedPromise : ℕ → ℕ → Amount → Type 0
-ExpectedPromise w h answer = answer ≡ amountOf (w * h * 4 + 1024)
+ExpectedPromise w h answer = answer ≡ expectedSize w h

@@ -13,7 +13,8 @@ use Rattle.words.specs.Lines.{lineFeed, space, past, between, firstLine, isFirs
 use Rattle.words.specs.Fields.{Fields, trim, fieldsAt, axesOf}
 use Rattle.words.specs.Sizes.{sizeOf, isSize, sizeAnswer}
 use Rattle.words.proofs.Laws.Lines.{past-within, lines-within}
-use Rattle.header.specs.Head.{head, fieldsOf, heightField, widthField, isOther, headOf, headChecks, headerOf, paperOf, HeaderPromise, sizesAnswer, fieldsAnswer}
+use Rattle.header.specs.Head.{head, fieldsOf, heightField, widthField, isOther, headOf, headChecks, headerOf, paperOf, HeaderPromise}
+use Rattle.header.specs.Inner.{sizesAnswer, fieldsAnswer}
 use Rattle.words.specs.declared.sizes.Size.{Size}
 use Rattle.words.specs.declared.sizes.Size.the-variants.{Number, NoNumber}
 use Rattle.words.specs.declared.fields.Axes.{Axes}

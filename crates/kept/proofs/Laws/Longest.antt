@@ -3,7 +3,7 @@ use Prim.Native.Nat.{ℕ, _+_, _*_, _<_, _≤_}
 use mathlib.Core.Bool.{Bool, true, false}
 use mathlib.Core.List.{List}
 use mathlib.Core.Logic.{_⊎_, ⊎-elim}
-use mathlib.Core.Path.{_≡_, refl, sym, ap, subst, _∙_}
+use mathlib.Core.Path.{_≡_, sym, ap, subst, _∙_}
 use native.Mathlib.Nat.{mul-comm, mul-assoc}
 use native.Mathlib.Omega.{arith}
 use borrow.Author.Tests.{le-leb, lt-leb}
@@ -11,17 +11,15 @@ use lib.ListN.{length}
 use lib.Dec.{ltb, leb}
 use lib.Ieee.{Float}
 use Rattle.steps.specs.Loop.{pick}
-use Rattle.steps.specs.Place.{spread}
 use Rattle.steps.specs.Answer.{Answer, done, refused, refuse, Check, checked}
 use Rattle.steps.proofs.Laws.Answer.{differ, passed-by}
 use Rattle.header.specs.Written.{written}
 use Rattle.runs.specs.Row.{isCoded, worstRow}
 use Rattle.parts.proofs.Laws.Channel.{and-no}
 use Rattle.frames.proofs.Laws.Frame.{frame-worst}
-use Rattle.writer.proofs.Laws.Write.{stored-fits}
 use Rattle.frames.specs.Samples.{packed, firstBright}
-use Rattle.frames.specs.Frame.{frameOf, worstOf}
-use Rattle.writer.specs.Write.{frameChecks, brightChecked, stored, lengthOf, length4Of}
+use Rattle.frames.specs.Frame.{worstOf}
+use Rattle.writer.specs.Write.{frameChecks, brightChecked, lengthOf, length4Of}
 use Rattle.kept.specs.Longest.{flatWorst, codedWorst}
 
 -- ---- The worst length is the mission's
@@ -65,9 +63,3 @@ never-longer w h samples n e =
 pub never-longer-4 : (w h : ℕ) (px : List ℕ) (n : ℕ) → length4Of w h px ≡ done n → n ≤ worstOf w h
 unfolding length4Of
 never-longer-4 w h px n e = subst (λ (m : ℕ). m ≤ worstOf w h) (is-length n _ (checked-done (frameChecks w h (length px) 4) n _ e)) (frame-worst px w h)
-
--- ---- Where the output holds the worst length, 13 cannot come
-
-pub worst-enough : (px : List ℕ) (w h : ℕ) (out : List ℕ) → worstOf w h ≤ length out
-    → stored (frameOf px w h) out ≡ (done (length (frameOf px w h)), spread 1 out 0 (frameOf px w h))
-worst-enough px w h out l = sym (stored-fits (frameOf px w h) out _ _ (omega (arith, frame-worst px w h)) refl refl)
