@@ -8,28 +8,32 @@ use header::HeadAnswer;
 use reader::ReadAnswer;
 ghost use Prim.Native.Nat.{_≤_};
 
-// `N PLACE W H TAKEN`.
-fn put_head(page: &mut [u8; 65536], put: usize, number: u8, place: usize, head: Head) -> usize
+// ` W H TAKEN`.
+fn put_sizes(page: &mut [u8; 65536], put: usize, width: usize, height: usize, taken: usize) -> usize
     requires { ⌜ put ≤ 65536 ⌝ }
     ensures { λ r. ⌜ r ≤ 65536 ⌝ }
 {
-    let p = print::refusal(page, put, number, place);
-    let q = print::next(page, p, head.width);
-    let r = print::next(page, q, head.height);
-    print::next(page, r, head.taken)
+    let p = print::next(page, put, width);
+    let q = print::next(page, p, height);
+    print::next(page, q, taken)
 }
 
-// The same of a refusal.
+// `0 0 W H TAKEN`.
+fn put_head(page: &mut [u8; 65536], put: usize, head: Head) -> usize
+    requires { ⌜ put ≤ 65536 ⌝ }
+    ensures { λ r. ⌜ r ≤ 65536 ⌝ }
+{
+    let p = print::refusal(page, put, 0, 0);
+    put_sizes(page, p, head.width, head.height, head.taken)
+}
+
+// `N PLACE 0 0 0`.
 fn put_refused(page: &mut [u8; 65536], put: usize, number: u8, place: usize) -> usize
     requires { ⌜ put ≤ 65536 ⌝ }
     ensures { λ r. ⌜ r ≤ 65536 ⌝ }
 {
-    let none = Head {
-        width: 0,
-        height: 0,
-        taken: 0,
-    };
-    put_head(page, put, number, place, none)
+    let p = print::refusal(page, put, number, place);
+    put_sizes(page, p, 0, 0, 0)
 }
 
 // Reads a header, and puts its answer.
@@ -45,7 +49,7 @@ fn answer_header(
 {
     let answer = header::read(bytes, widest, highest);
     match answer {
-        HeadAnswer::Read(head) => put_head(page, put, 0, 0, head),
+        HeadAnswer::Read(head) => put_head(page, put, head),
         HeadAnswer::Refused(refusal) => put_refused(page, put, refusal.number, refusal.place),
     }
 }
@@ -77,7 +81,7 @@ fn put_read(page: &mut [u8; 65536], put: usize, answer: ReadAnswer) -> usize
     ensures { λ r. ⌜ r ≤ 65536 ⌝ }
 {
     match answer {
-        ReadAnswer::Done(head) => put_head(page, put, 0, 0, head),
+        ReadAnswer::Done(head) => put_head(page, put, head),
         ReadAnswer::Refused(refusal) => put_refused(page, put, refusal.number, refusal.place),
     }
 }
