@@ -55,31 +55,41 @@ module _ (rowRule : RowRule) (rule : SampleRule) (width first : ℕ) (bytes : Li
   step-done next o out′ k eo es =
       ap (λ (l : List Float). (Done next, l, store′)) (es ∙ rw eo (sym (placed-along rule first store′ out width))) ∙ (rw k at (stepped-by (along first)))
 
--- what a step did, from its answer
-other : (next number : ℕ) → Done next ≡ Fault number → ⊥
-other next number e = let z : _≡_ {A = ℕ} 0 1 = cc in omega arith
+-- ---- What a step did, from its answer
+
+abbrev Answered : Type 0
+Answered = Taken × List Float × List ℕ
+
+abbrev OfRow : Type 0
+OfRow = Taken × List ℕ
+
+abbrev row-of : Answered → OfRow
+row-of z = (z .0, z .2)
+
+never-both : (next number : ℕ) → Done next ≡ Fault number → ⊥
+never-both next number e = let z : _≡_ {A = ℕ} 0 1 = cc in omega arith
 
 module _ (rowRule : RowRule) (rule : SampleRule) (long : ℕ) (place : ℕ → ℕ) (bytes : List ℕ) (at : ℕ) (out o : List Float) (store s : List ℕ) where
-  by-row : (L : Taken × List Float × List ℕ → Taken × List ℕ → Type 0) → ((t : Taken) (s′ : List ℕ) → L (stepped rule long place out t s′) (t, s′))
+  by-row : (L : Answered → OfRow → Type 0) → ((t : Taken) (s′ : List ℕ) → L (stepped rule long place out t s′) (t, s′))
       → L (stepOf rowRule rule long place bytes at out store) (rowRule bytes at store long)
   unfolding stepOf
   by-row L all = all (rowRule bytes at store long .0) (rowRule bytes at store long .1)
 
   -- at fault: its row is, and the output is as it was
   pub faulted : (number : ℕ) → (Fault number, o, s) ≡ stepOf rowRule rule long place bytes at out store → ((Fault number, s) ≡ rowRule bytes at store long) × (o ≡ out)
-  faulted number = by-row (λ (x : Taken × List Float × List ℕ) (y : Taken × List ℕ). _≡_ {A = Taken × List Float × List ℕ} (Fault number, o, s) x → (_≡_ {A = Taken × List ℕ} (Fault number, s) y) × (o ≡ out)) by-taken
+  faulted number = by-row (λ x y. _≡_ {A = Answered} (Fault number, o, s) x → (_≡_ {A = OfRow} (Fault number, s) y) × (o ≡ out)) by-taken
     where
-      by-taken : (t : Taken) (s′ : List ℕ) → (Fault number, o, s) ≡ stepped rule long place out t s′ → (_≡_ {A = Taken × List ℕ} (Fault number, s) (t, s′)) × (o ≡ out)
-      by-taken (Done next) s′ e = absurd (other next number (sym (ap (λ (z : Taken × List Float × List ℕ). z .0) e)))
-      by-taken (Fault m) s′ e = (ap (λ (z : Taken × List Float × List ℕ). (z .0, z .2)) e, ap (λ (z : Taken × List Float × List ℕ). z .1) e)
+      by-taken : (t : Taken) (s′ : List ℕ) → (Fault number, o, s) ≡ stepped rule long place out t s′ → (_≡_ {A = OfRow} (Fault number, s) (t, s′)) × (o ≡ out)
+      by-taken (Done next) s′ e = absurd (never-both next number (sym (ap (λ (z : Answered). z .0) e)))
+      by-taken (Fault m) s′ e = (ap row-of e, ap (λ (z : Answered). z .1) e)
 
   -- done: its row is read, and its samples are put
   pub went-on : (next : ℕ) → (Done next, o, s) ≡ stepOf rowRule rule long place bytes at out store → ((Done next, s) ≡ rowRule bytes at store long) × (o ≡ placed rule place s 0 long out)
-  went-on next = by-row (λ (x : Taken × List Float × List ℕ) (y : Taken × List ℕ). _≡_ {A = Taken × List Float × List ℕ} (Done next, o, s) x → (_≡_ {A = Taken × List ℕ} (Done next, s) y) × (o ≡ placed rule place s 0 long out)) by-taken
+  went-on next = by-row (λ x y. _≡_ {A = Answered} (Done next, o, s) x → (_≡_ {A = OfRow} (Done next, s) y) × (o ≡ placed rule place s 0 long out)) by-taken
     where
-      by-taken : (t : Taken) (s′ : List ℕ) → (Done next, o, s) ≡ stepped rule long place out t s′ → (_≡_ {A = Taken × List ℕ} (Done next, s) (t, s′)) × (o ≡ placed rule place s 0 long out)
-      by-taken (Done m) s′ e = (ap (λ (z : Taken × List Float × List ℕ). (z .0, z .2)) e, ap (λ (z : Taken × List Float × List ℕ). z .1) e ∙ ap (λ (l : List ℕ). placed rule place l 0 long out) (sym (ap (λ (z : Taken × List Float × List ℕ). z .2) e)))
-      by-taken (Fault m) s′ e = absurd (other next m (ap (λ (z : Taken × List Float × List ℕ). z .0) e))
+      by-taken : (t : Taken) (s′ : List ℕ) → (Done next, o, s) ≡ stepped rule long place out t s′ → (_≡_ {A = OfRow} (Done next, s) (t, s′)) × (o ≡ placed rule place s 0 long out)
+      by-taken (Done m) s′ e = (ap row-of e, ap (λ (z : Answered). z .1) e ∙ ap (λ (l : List ℕ). placed rule place l 0 long out) (sym (ap (λ (z : Answered). z .2) e)))
+      by-taken (Fault m) s′ e = absurd (never-both next m (ap (λ (z : Answered). z .0) e))
 
 -- ---- Rows
 
@@ -88,6 +98,7 @@ abbrev By : (ℕ → Type 0) → Answer ℕ → Type 0
 By P (done at) = Unit {0}
 By P (refused number row) = P number
 
+-- what else could stand for the turns that are used up
 abbrev none : Rows → Left
 none x = (done (x .at), x .out, x .store)
 
@@ -107,7 +118,7 @@ module _ (rowRule : RowRule) (rule : SampleRule) (bytes : List ℕ) (stored : St
         (e : (t, out′, store′) ≡ stepOf rowRule rule (stored .long) (stored .place row) bytes p out store) where
       read-on : rowTurn rowRule rule bytes stored (rows p row store out) ≡ afterStep row t out′ store′
       unfolding rowTurn
-      read-on = simp (lt-ltb row (stored .count) h) (ap (λ (z : Taken × List Float × List ℕ). afterStep row (z .0) (z .1) (z .2)) (sym e))
+      read-on = simp (lt-ltb row (stored .count) h) (ap (λ (z : Answered). afterStep row (z .0) (z .1) (z .2)) (sym e))
 
       pub rows-fault : (number : ℕ) → t ≡ Fault number → (refused number row, out′, store′) ≡ a
       rows-fault number k = runs-halt r (read-on ∙ rw k)
