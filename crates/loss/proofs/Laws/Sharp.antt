@@ -1,4 +1,4 @@
--- No bound of the claims is loose: pixels at the edge of each, computed.
+-- No bound of the claims is loose: pixels at the edge of each, computed. The last byte 22 is that of `first-is-light` in `Dark`.
 use mathlib.Core.Path.{_≡_, refl}
 use mathlib.Core.Bool.{false}
 use Prim.Native.Nat.{ℕ, _-_, _^_}
@@ -22,11 +22,6 @@ bytes m e = record { r = m; g = 0; b = 0; e = e }
 -- what comes back of a written pixel
 abbrev back : Pixel → Pixel
 back p = pixelOf crateUnits (bytesOf p)
-
--- the first f32 above the nearest to 1e-32 has the last byte 22
-pub least-last : bytesOf (red (fin false 0x67d89 (negsuc 124))) ≡ bytes 207 22
-unfolding size mag peak tooBright bytesOf
-least-last = refl
 
 -- the largest f32 below 2^127 has the last byte 255
 pub most-last : bytesOf (red (fin false (2 ^ 24 - 1) (pos 103))) ≡ bytes 255 255
