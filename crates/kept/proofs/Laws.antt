@@ -1,5 +1,6 @@
 -- The theorems over the definitions in `specs/`, and the steps to them.
 pub mod Longest
+pub mod Ahead
 pub mod Reached
 pub mod Least
 pub mod Numbered
@@ -8,6 +9,7 @@ pub mod Frame
 pub mod Back
 pub mod Calls
 pub mod Lent
+pub mod Step
 pub mod Sharp
 pub mod Alone
 pub mod Skies

@@ -104,4 +104,6 @@ skies =
     -- 7: samples to four bytes: 0.003 three times; -1, no number, 2^-32
     ∷ writes (pixel dusk dusk dusk) (Bytes (rgbe 196 196 196 120))
     ∷ writes (pixel (fin true 1 (pos 0)) nan (part 1 32)) (Bytes (rgbe 0 0 128 97))
+    -- what 0.003 comes back as: 49/16384, which is 0.00299072265625
+    ∷ crate-reads (rgbe 196 196 196 120) (pixel (part 49 14) (part 49 14) (part 49 14))
     ∷ []

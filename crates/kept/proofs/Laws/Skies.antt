@@ -21,4 +21,4 @@ use Rattle.kept.specs.Skies.{skies, Each}
 
 pub all-skies : Each skies
 unfolding round size run bytesFrom spread ofUnits mag crateShift crateScale crateUnits docScale docUnits peak tooBright bytesOf packedOf upTo past same isFirst lineTurn linesEnd isBlank trimStart trimEnd fieldsAt axesOf unsigned isDigit allDigits valueFrom isNumber isSize sizeOf fieldsOf headChecks headOf lasts copied repeatTurn repeatOf fourTo isRepeat repeated crateFlat goesOn flatTurn flatOf isFlatWidth rowBy crateParts crateRow grow cut stretch gather code placed stepOf rowTurn rowsOf cratePixel readBy
-all-skies = (refl, (refl, (refl, (refl, (refl, (refl, (refl, (refl, (refl, (refl, (refl, (refl, (refl, (refl, (refl, tt)))))))))))))))
+all-skies = (refl, (refl, (refl, (refl, (refl, (refl, (refl, (refl, (refl, (refl, (refl, (refl, (refl, (refl, (refl, (refl, tt))))))))))))))))
