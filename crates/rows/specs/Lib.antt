@@ -1,3 +1,4 @@
--- "Rows read" of document 01: one row of the input into the row store, and that row in the middle of bytes.
+-- "Rows read" of document 01: one row of the input into the row store, that row in the middle of bytes, and the cut that is not refused.
 pub mod Row
 pub mod Middle
+pub mod Cut
