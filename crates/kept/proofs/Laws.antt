@@ -4,6 +4,7 @@ pub mod Ahead
 pub mod Reached
 pub mod Least
 pub mod Numbered
+pub mod Refused
 pub mod Samples
 pub mod Frame
 pub mod Back
@@ -13,6 +14,7 @@ pub mod Step
 pub mod Sharp
 pub mod Alone
 pub mod Skies
+pub mod Shown
 pub mod RadianceValues
 pub mod RadianceComponent
 pub mod RadianceRows

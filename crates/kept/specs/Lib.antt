@@ -6,4 +6,5 @@ pub mod Back
 pub mod Alone
 pub mod Lent
 pub mod Skies
+pub mod Shown
 pub mod Radiance

@@ -1,10 +1,12 @@
 -- What can be known of a file before it is written, over what the calls promise: its length, and that it is not longer than the worst.
-use Prim.Native.Nat.{ℕ, _≤_}
+use Prim.Native.Nat.{ℕ, _+_, _*_, _≤_}
 use mathlib.Core.List.{List}
 use mathlib.Core.Path.{_≡_, refl, sym, subst}
 use lib.Ieee.{Float}
 use Rattle.steps.specs.Answer.{Answer, done, refuse}
 use Rattle.steps.proofs.Laws.Answer.{differ, passed-by}
+use Rattle.header.specs.Written.{digitsBy, digits, written}
+use Rattle.runs.specs.Row.{isCoded, worstRow}
 use Rattle.frames.specs.Frame.{worstOf}
 use Rattle.writer.specs.Write.{sizeChecks, worstAnswer, LengthPromise, Length4Promise, WorstPromise, WritePromise, Write4Promise}
 use Rattle.writer.specs.declared.WriteAnswer.{WriteAnswer}
@@ -43,3 +45,12 @@ module _ (w h n m : ℕ) (lent left : List ℕ) (asked : WorstPromise w h (Done 
 
   pub write4-under-worst : (px : List ℕ) → Write4Promise w h px lent (Done n) left → n ≤ m
   write4-under-worst px wrote = subst (λ (z : ℕ). n ≤ z) (sym (worst-told w h m asked)) (write4-no-longer w h n lent left px wrote)
+
+-- ---- A sky of 4,096 by 2,048: its worst length, and how much more that is than `expected_buffer_size` answers
+
+pub dome-worst : worstOf 4096 2048 ≡ 33824837
+unfolding worstOf worstRow isCoded written digits digitsBy
+dome-worst = refl
+
+pub dome-expected : 4096 * 2048 * 4 + 1024 + 269381 ≡ 33824837
+dome-expected = refl

@@ -1,0 +1,22 @@
+-- The inputs that DIFFERENCES shows are answered so: the checker computes each.
+use mathlib.Core.Path.{refl}
+use lib.Ieee.{round, size}
+use Rattle.steps.specs.Loop.{run}
+use Rattle.steps.specs.Place.{bytesFrom, spread}
+use Rattle.pixel.specs.Units.{ofUnits, mag}
+use Rattle.pixel.specs.Rgbe.{crateShift, crateScale, crateUnits}
+use Rattle.words.specs.Lines.{upTo, past, same, isFirst, lineTurn, linesEnd}
+use Rattle.words.specs.Fields.{isBlank, trimStart, trimEnd, fieldsAt, axesOf}
+use Rattle.words.specs.Sizes.{unsigned, isDigit, allDigits, valueFrom, isNumber, isSize, sizeOf}
+use Rattle.header.specs.Head.{fieldsOf, headChecks, headOf}
+use Rattle.flat.specs.Flat.{fourTo, isRepeat, crateFlat, goesOn, flatTurn, flatOf}
+use Rattle.rows.specs.Row.{isFlatWidth, rowBy, crateParts, crateRow}
+use Rattle.reader.specs.Samples.{placed}
+use Rattle.reader.specs.Frame.{stepOf, rowTurn, rowsOf}
+use Rattle.reader.specs.Read.{cratePixel, readBy}
+use Rattle.kept.specs.Skies.{Each}
+use Rattle.kept.specs.Shown.{shown}
+
+pub all-shown : Each shown
+unfolding round size run bytesFrom spread ofUnits mag crateShift crateScale crateUnits upTo past same isFirst lineTurn linesEnd isBlank trimStart trimEnd fieldsAt axesOf unsigned isDigit allDigits valueFrom isNumber isSize sizeOf fieldsOf headChecks headOf fourTo isRepeat crateFlat goesOn flatTurn flatOf isFlatWidth rowBy crateParts crateRow placed stepOf rowTurn rowsOf cratePixel readBy
+all-shown = (refl, (refl, (refl, (refl, tt))))
