@@ -5,6 +5,7 @@ pub mod Reached
 pub mod Least
 pub mod Numbered
 pub mod Refused
+pub mod Cut
 pub mod Samples
 pub mod Frame
 pub mod Back

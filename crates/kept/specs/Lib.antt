@@ -2,6 +2,7 @@
 pub mod Longest
 pub mod Least
 pub mod Numbered
+pub mod Cut
 pub mod Back
 pub mod Alone
 pub mod Lent

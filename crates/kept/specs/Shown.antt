@@ -1,6 +1,6 @@
 -- What `reader::read` does with inputs that DIFFERENCES shows: a table like that of the sample skies.
 use mathlib.Core.List.{List, [], _∷_, _++_}
-use Prim.Native.Nat.{ℕ}
+use Prim.Native.Nat.{ℕ, zero, suc}
 use lib.ListN.{replicate}
 use lib.IntN.{pos, negsuc}
 use mathlib.Core.Bool.{false}
@@ -55,10 +55,35 @@ format = 70 ∷ 79 ∷ 82 ∷ 77 ∷ 65 ∷ 84 ∷ 61 ∷ 51 ∷ 50 ∷ 45 ∷ 9
 abbrev exposure : List ℕ
 exposure = 69 ∷ 88 ∷ 80 ∷ 79 ∷ 83 ∷ 85 ∷ 82 ∷ 69 ∷ 61 ∷ 50 ∷ lineFeed ∷ []
 
+-- the digit 8, and a row of 8 whose first three channels are 128, 64 and 32 throughout
+abbrev eight : List ℕ
+eight = 56 ∷ []
+
+abbrev threeChannels : List ℕ
+threeChannels = 2 ∷ 2 ∷ 0 ∷ 8 ∷ 136 ∷ 128 ∷ 136 ∷ 64 ∷ 136 ∷ 32 ∷ []
+
+-- four bytes of that row at an exponent byte, and n times those at 0
+abbrev lit : ℕ → List ℕ
+lit e = 128 ∷ 64 ∷ 32 ∷ e ∷ []
+
+unfoldable pub unlit : ℕ → List ℕ
+unlit zero = []
+unlit (suc n) = lit 0 ++ unlit n
+
 abbrev pub shown : List Case
 shown =
-    -- DIFFERENCES 6: +X 2 -Y 2 and pixels 1, 2, 3, 4 are rows 1 2 and 3 4
-    reads (file [] (columns pair pair) ++ (1 ∷ 0 ∷ 0 ∷ 136 ∷ 2 ∷ 0 ∷ 0 ∷ 136 ∷ 3 ∷ 0 ∷ 0 ∷ 136 ∷ 4 ∷ 0 ∷ 0 ∷ 136 ∷ []))
+    -- DIFFERENCES 3: the bytes end after the last count, which asks for a run of 8 exponents: all of them are 0
+    reads (file [] (rows one eight) ++ (threeChannels ++ (136 ∷ [])))
+    (replicate 24 two) (replicate 32 7)
+    (done (head 8 1 29))
+    (replicate 24 (whole 0)) (unlit 8)
+    -- the bytes end after two of 8 literal exponents: six of them are 0
+    ∷ reads (file [] (rows one eight) ++ (threeChannels ++ (8 ∷ 129 ∷ 129 ∷ [])))
+    (replicate 24 two) (replicate 32 7)
+    (done (head 8 1 31))
+    (whole 1 ∷ half ∷ quarter ∷ whole 1 ∷ half ∷ quarter ∷ replicate 18 (whole 0)) (lit 129 ++ (lit 129 ++ unlit 6))
+    -- 6: +X 2 -Y 2 and pixels 1, 2, 3, 4 are rows 1 2 and 3 4
+    ∷ reads (file [] (columns pair pair) ++ (1 ∷ 0 ∷ 0 ∷ 136 ∷ 2 ∷ 0 ∷ 0 ∷ 136 ∷ 3 ∷ 0 ∷ 0 ∷ 136 ∷ 4 ∷ 0 ∷ 0 ∷ 136 ∷ []))
     (replicate 12 half) (replicate 8 7)
     (done (head 2 2 34))
     (whole 1 ∷ whole 0 ∷ whole 0 ∷ two ∷ whole 0 ∷ whole 0 ∷ whole 3 ∷ whole 0 ∷ whole 0 ∷ four ∷ whole 0 ∷ whole 0 ∷ [])

@@ -10,13 +10,15 @@ use Rattle.words.specs.Fields.{isBlank, trimStart, trimEnd, fieldsAt, axesOf}
 use Rattle.words.specs.Sizes.{unsigned, isDigit, allDigits, valueFrom, isNumber, isSize, sizeOf}
 use Rattle.header.specs.Head.{fieldsOf, headChecks, headOf}
 use Rattle.flat.specs.Flat.{fourTo, isRepeat, crateFlat, goesOn, flatTurn, flatOf}
-use Rattle.rows.specs.Row.{isFlatWidth, rowBy, crateParts, crateRow}
+use Rattle.channels.specs.Channel.{isRun, spanLength, spanBytes, spanTaken, spanOf, crateCount, channelTurn, channelOf}
+use Rattle.channels.specs.Channels.{chansTurn, channelsOf}
+use Rattle.rows.specs.Row.{isFlatWidth, isMark, kindOf, early, rowBy, crateStart, crateParts, crateRow}
 use Rattle.reader.specs.Samples.{placed}
 use Rattle.reader.specs.Frame.{stepOf, rowTurn, rowsOf}
 use Rattle.reader.specs.Read.{cratePixel, readBy}
 use Rattle.kept.specs.Skies.{Each}
-use Rattle.kept.specs.Shown.{shown}
+use Rattle.kept.specs.Shown.{unlit, shown}
 
 pub all-shown : Each shown
-unfolding round size run bytesFrom spread ofUnits mag crateShift crateScale crateUnits upTo past same isFirst lineTurn linesEnd isBlank trimStart trimEnd fieldsAt axesOf unsigned isDigit allDigits valueFrom isNumber isSize sizeOf fieldsOf headChecks headOf fourTo isRepeat crateFlat goesOn flatTurn flatOf isFlatWidth rowBy crateParts crateRow placed stepOf rowTurn rowsOf cratePixel readBy
-all-shown = (refl, (refl, (refl, (refl, tt))))
+unfolding round size run bytesFrom spread ofUnits mag crateShift crateScale crateUnits upTo past same isFirst lineTurn linesEnd isBlank trimStart trimEnd fieldsAt axesOf unsigned isDigit allDigits valueFrom isNumber isSize sizeOf fieldsOf headChecks headOf fourTo isRepeat crateFlat goesOn flatTurn flatOf isRun spanLength spanBytes spanTaken spanOf crateCount channelTurn channelOf chansTurn channelsOf isFlatWidth isMark kindOf early rowBy crateStart crateParts crateRow unlit placed stepOf rowTurn rowsOf cratePixel readBy
+all-shown = (refl, (refl, (refl, (refl, (refl, (refl, tt))))))

@@ -1,0 +1,34 @@
+-- The cut that is not refused, of a whole file: its last row is coded, and the bytes end inside what that row's last count asks for.
+use Prim.Native.Nat.{ℕ, zero, suc, _+_, _*_, _<_, _≤_}
+use mathlib.Core.List.{List}
+use mathlib.Core.Path.{_≡_}
+use lib.Ieee.{Float}
+use lib.ListN.{length}
+use Rattle.steps.specs.Loop.{more}
+use Rattle.steps.specs.Answer.{done}
+use Rattle.header.specs.declared.Head.{Head}
+use Rattle.header.specs.Head.{headerOf}
+use Rattle.rows.specs.Row.{crateRow}
+use Rattle.rows.specs.Cut.{CutRow}
+use Rattle.reader.specs.Frame.{Stored, storedOf, cleared, Rows, rows, rowTurn}
+use Rattle.reader.specs.Read.{cratePixel}
+
+-- after n rows more, from x on, the reader is at y
+abbrev pub AfterRows : List ℕ → Stored → ℕ → Rows → Rows → Type 0
+AfterRows bytes stored zero x y = x ≡ y
+AfterRows bytes stored (suc n) x y = (z : Rows) × (rowTurn crateRow cratePixel bytes stored x ≡ more z) × AfterRows bytes stored n z y
+
+pub record CutFile (bytes : List ℕ) (widest highest : ℕ) (out : List Float) (store : List ℕ) : Type 0 where
+  -- the checks 1 to 8 pass
+  pub head : Head
+  pub header : headerOf bytes widest highest ≡ done head
+  pub room : head .height * (3 * head .width) ≤ length out
+  pub some : 0 < head .width
+  pub row : 4 * head .width ≤ length store
+  -- the rows before the last are read
+  pub count : ℕ
+  pub last : Rows
+  pub before : AfterRows bytes (storedOf head) count (rows (head .taken) 0 (cleared (head .width) store) out) last
+  pub is-last : last .row + 1 ≡ head .height
+  -- and the last is cut
+  pub cut : CutRow bytes (last .at) (last .store) (head .width)
