@@ -1,10 +1,17 @@
 -- What can be known of a file before it is written, over what the calls promise: its length, and that it is not longer than the worst.
 use Prim.Native.Nat.{ℕ, _+_, _*_, _≤_}
 use mathlib.Core.List.{List}
-use mathlib.Core.Path.{_≡_, refl, sym, subst}
+use mathlib.Core.Bool.{_&&_}
+use mathlib.Core.Path.{_≡_, refl, sym, subst, _∙_}
+use native.Mathlib.Nat.{mul-comm, mul-assoc, mul-le-mul-left}
+use native.Mathlib.Omega.{arith}
+use borrow.Author.Tests.{leb-true}
+use lib.Dec.{leb}
+use lib.ListN.{length}
 use lib.Ieee.{Float}
 use Rattle.steps.specs.Answer.{Answer, done, refuse}
 use Rattle.steps.proofs.Laws.Answer.{differ, passed-by}
+use Rattle.steps.proofs.Laws.Turns.{by-test, and-left}
 use Rattle.header.specs.Written.{digitsBy, digits, written}
 use Rattle.runs.specs.Row.{isCoded, worstRow}
 use Rattle.frames.specs.Frame.{worstOf}
@@ -45,6 +52,19 @@ module _ (w h n m : ℕ) (lent left : List ℕ) (asked : WorstPromise w h (Done 
 
   pub write4-under-worst : (px : List ℕ) → Write4Promise w h px lent (Done n) left → n ≤ m
   write4-under-worst px wrote = subst (λ (z : ℕ). n ≤ z) (sym (worst-told w h m asked)) (write4-no-longer w h n lent left px wrote)
+
+-- ---- The worst length is at most five bytes a pixel and the header
+
+row-five : (w : ℕ) → worstRow w ≤ 5 * w
+unfolding worstRow isCoded
+row-five w = by-test (λ (n : ℕ). n ≤ 5 * w) (leb 8 w && leb w 32767) (λ t. let h = leb-true 8 w (and-left (leb 8 w) (leb w 32767) t) in omega arith) (λ t. omega arith)
+
+pub worst-five : (w h : ℕ) → worstOf w h ≤ length (written w h) + 5 * (w * h)
+unfolding worstOf
+worst-five w h =
+    let rows : h * worstRow w ≤ h * (5 * w) = mul-le-mul-left h (row-five w) in
+    let area : h * (5 * w) ≡ 5 * (w * h) = mul-comm h (5 * w) ∙ mul-assoc 5 w h in
+    omega (arith, rows, area)
 
 -- ---- A sky of 4,096 by 2,048: its worst length, and how much more that is than `expected_buffer_size` answers
 

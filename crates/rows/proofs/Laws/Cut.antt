@@ -19,7 +19,7 @@ use Rattle.steps.proofs.Laws.Place.{spread-append}
 use Rattle.steps.proofs.Laws.Turns.{Falls}
 use Rattle.channels.specs.Channel.{Chan, chan, crateCount, isRun, spanLength, spanBytes, spanTaken, spanOf, channelTurn, channelOut, channelOf}
 use Rattle.channels.specs.Channels.{channelsOf}
-use Rattle.channels.proofs.Laws.Channel.{crate-count, taken-run, taken-literals, turn-span, turn-done, span-onward, channel-starts, channel-falls}
+use Rattle.channels.proofs.Laws.Channel.{length-run, length-literals, crate-count, taken-run, taken-literals, turn-span, turn-done, span-onward, channel-starts, channel-falls}
 use Rattle.channels.proofs.Laws.Channels.{chans-starts, chans-again, chans-done}
 use Rattle.rows.specs.Row.{isFlatWidth, crateStart, crateRow}
 use Rattle.rows.specs.Cut.{After, CutAt, behind, filled, CutRow}
@@ -130,6 +130,14 @@ module _ (src : List ℕ) (at : ℕ) (store : List ℕ) (width : ℕ) (c : CutRo
   pub cut-row : crateRow src at store width ≡ (Done (length src), cutStore)
   cut-row =
       sym (row-channels src at store width false (sym (c .coded)) refl _ (crateStart src at store) (sym (c .mark)) refl (Done (length src), cutStore) (at + 4) refl channels-cut)
+
+-- at most 128 bytes are missing, since a count is a byte
+pub cut-most : (src : List ℕ) (width : ℕ) (x : Chan) → CutAt src width x → getD src (x .at) 0 < 256 → width - x .done - behind src x ≤ 128
+cut-most src width x cut byte =
+    let c : ℕ = getD src (x .at) 0 in
+    either 128 c
+    (λ l. omega (arith, length-run c l, cut .last))
+    (λ l. omega (arith, length-literals c l, cut .last))
 
 -- ---- The pixels whose exponents are missing have the exponent 0
 
