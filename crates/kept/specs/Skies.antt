@@ -47,20 +47,20 @@ Each (c ∷ cs) = Right c × Each cs
 
 -- ---- Names for what stands in the table
 
-abbrev rgbe : ℕ → ℕ → ℕ → ℕ → Rgbe
+abbrev pub rgbe : ℕ → ℕ → ℕ → ℕ → Rgbe
 rgbe r g b e = record { r = r; g = g; b = b; e = e }
 
-abbrev pixel : Float → Float → Float → Pixel
+abbrev pub pixel : Float → Float → Float → Pixel
 pixel r g b = record { r = r; g = g; b = b }
 
 -- n, n times 2^k, and n times 2^-k for a k above 0; f32s are written with an odd n
-abbrev whole : ℕ → ℕ → Float
+abbrev pub whole : ℕ → ℕ → Float
 whole n k = fin false n (pos k)
 
-abbrev part : ℕ → ℕ → Float
+abbrev pub part : ℕ → ℕ → Float
 part n k = fin false n (negsuc (k - 1))
 
-abbrev none : Float
+abbrev pub none : Float
 none = fin false 0 (pos 0)
 
 -- 0.003, the f32 nearest to it

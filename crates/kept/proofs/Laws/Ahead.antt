@@ -74,3 +74,12 @@ dome-worst = refl
 
 pub dome-expected : 4096 * 2048 * 4 + 1024 + 269381 ≡ 33824837
 dome-expected = refl
+
+-- ---- A frame of 8 by 120 can be a byte longer than `expected_buffer_size` answers
+
+pub small-worst : worstOf 8 120 ≡ 4865
+unfolding worstOf worstRow isCoded written digits digitsBy
+small-worst = refl
+
+pub small-expected : 8 * 120 * 4 + 1024 + 1 ≡ 4865
+small-expected = refl

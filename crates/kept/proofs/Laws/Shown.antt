@@ -1,10 +1,10 @@
--- The inputs that DIFFERENCES shows are answered so: the checker computes each.
+-- The inputs and pixels that DIFFERENCES shows are answered so: the checker computes each.
 use mathlib.Core.Path.{refl}
 use lib.Ieee.{round, size}
 use Rattle.steps.specs.Loop.{run}
 use Rattle.steps.specs.Place.{bytesFrom, spread}
 use Rattle.pixel.specs.Units.{ofUnits, mag}
-use Rattle.pixel.specs.Rgbe.{crateShift, crateScale, crateUnits}
+use Rattle.pixel.specs.Rgbe.{crateShift, crateScale, crateUnits, peak, tooBright, bytesOf, packedOf}
 use Rattle.words.specs.Lines.{upTo, past, same, isFirst, lineTurn, linesEnd}
 use Rattle.words.specs.Fields.{isBlank, trimStart, trimEnd, fieldsAt, axesOf}
 use Rattle.words.specs.Sizes.{unsigned, isDigit, allDigits, valueFrom, isNumber, isSize, sizeOf}
@@ -20,5 +20,5 @@ use Rattle.kept.specs.Skies.{Each}
 use Rattle.kept.specs.Shown.{unlit, shown}
 
 pub all-shown : Each shown
-unfolding round size run bytesFrom spread ofUnits mag crateShift crateScale crateUnits upTo past same isFirst lineTurn linesEnd isBlank trimStart trimEnd fieldsAt axesOf unsigned isDigit allDigits valueFrom isNumber isSize sizeOf fieldsOf headChecks headOf fourTo isRepeat crateFlat goesOn flatTurn flatOf isRun spanLength spanBytes spanTaken spanOf crateCount channelTurn channelOf chansTurn channelsOf isFlatWidth isMark kindOf early rowBy crateStart crateParts crateRow unlit placed stepOf rowTurn rowsOf cratePixel readBy
-all-shown = (refl, (refl, (refl, (refl, (refl, (refl, tt))))))
+unfolding round size run bytesFrom spread ofUnits mag crateShift crateScale crateUnits peak tooBright bytesOf packedOf upTo past same isFirst lineTurn linesEnd isBlank trimStart trimEnd fieldsAt axesOf unsigned isDigit allDigits valueFrom isNumber isSize sizeOf fieldsOf headChecks headOf fourTo isRepeat crateFlat goesOn flatTurn flatOf isRun spanLength spanBytes spanTaken spanOf crateCount channelTurn channelOf chansTurn channelsOf isFlatWidth isMark kindOf early rowBy crateStart crateParts crateRow unlit placed stepOf rowTurn rowsOf cratePixel readBy
+all-shown = (refl, (refl, (refl, (refl, (refl, (refl, (refl, (refl, (refl, (refl, (refl, (refl, (refl, (refl, tt))))))))))))))
