@@ -196,7 +196,7 @@ pub fn differences() {
     let after = |header: &[u8], row: &[u8]| [header, row].concat();
     print_read("exponent byte 96, as 128 (2^-33 by the document)", &after(b"#?RGBE\n\n-Y 1 +X 1\n", &[128, 0, 0, 96]), 3);
     print_read("exponent byte 160 (2^31 by the document)", &after(b"#?RGBE\n\n-Y 1 +X 1\n", &[128, 0, 0, 160]), 3);
-    print_read("old run after one pixel: not taken", &after(b"#?RGBE\n\n-Y 1 +X 2\n", &[9, 9, 9, 136, 1, 1, 1, 1]), 6);
+    print_read("old run after one pixel: not taken", &after(b"#?RGBE\n\n-Y 1 +X 2\n", &[10, 10, 10, 129, 1, 1, 1, 1]), 6);
     print_read(
         "old run after two pixels: one copy ends a row of four",
         &after(b"#?RGBE\n\n-Y 1 +X 4\n", &[10, 10, 10, 129, 20, 20, 20, 129, 1, 1, 1, 2]),
@@ -216,7 +216,7 @@ pub fn differences() {
     );
     print_read(
         "missing literal bytes in the last channel",
-        &after(b"#?RGBE\n\n-Y 1 +X 8\n", &[2, 2, 0, 8, 136, 128, 136, 64, 136, 32, 8, 129]),
+        &after(b"#?RGBE\n\n-Y 1 +X 8\n", &[2, 2, 0, 8, 136, 128, 136, 64, 136, 32, 8, 129, 129]),
         24,
     );
     print_read("missing count", &after(b"#?RGBE\n\n-Y 1 +X 8\n", &[2, 2, 0, 8, 136, 128, 136, 64, 136, 32]), 24);
@@ -230,12 +230,18 @@ pub fn differences() {
         &after(b"#?RGBE\n\n-Y 1 +X 8\n", &[2, 2, 0, 8, 255, 128, 136, 64, 136, 32, 136, 129]),
         24,
     );
+    print_read(
+        "count of 0",
+        &after(b"#?RGBE\n\n-Y 1 +X 8\n", &[2, 2, 0, 8, 0, 136, 128, 136, 64, 136, 32, 136, 129]),
+        24,
+    );
     let four = [1, 0, 0, 136, 2, 0, 0, 136, 3, 0, 0, 136, 4, 0, 0, 136];
     print_read(
         "+X 2 -Y 2: pixels 1, 2, 3, 4 are rows 1 2 and 3 4 (columns by the document)",
         &after(b"#?RGBE\n\n+X 2 -Y 2\n", &four),
         12,
     );
+    print_read("lower edge of the step", &after(b"#?RGBE\n\n-Y 1 +X 1\n", &[128, 64, 32, 129]), 3);
     print_read(
         "FORMAT xyze, EXPOSURE 2, unread",
         &after(b"#?RGBE\nFORMAT=32-bit_rle_xyze\nEXPOSURE=2\n\n-Y 1 +X 1\n", &[128, 64, 32, 129]),
