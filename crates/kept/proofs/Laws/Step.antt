@@ -7,11 +7,11 @@ use native.Mathlib.Omega.{arith}
 use lib.Dec.{lit<}
 use lib.Ieee.{size}
 use lib.Pow.{pow-pos}
+use Rattle.loss.specs.Kept.{Between, Lies, step}
 use Rattle.pixel.specs.declared.Pixel.{Pixel}
 use Rattle.pixel.specs.Rgbe.{peak, dark}
 use Rattle.pixel.proofs.Laws.Numbers.{pow-pow}
 use Rattle.pixel.proofs.Laws.Digits.{size-is, size-low}
-use Rattle.kept.specs.Back.{Between, Lies, step}
 
 -- from 2^-142 on, which is 2^7 times 2^-149; below it no step is a whole number of 2^-149
 pub step-share-from : (p : Pixel) (n : ℕ) → 8 ≤ n → Lies p n → 128 * step n ≤ peak p

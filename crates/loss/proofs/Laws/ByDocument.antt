@@ -11,7 +11,8 @@ use Rattle.pixel.specs.declared.Rgbe.{Rgbe}
 use Rattle.pixel.specs.Units.{ofUnits, mag}
 use Rattle.pixel.specs.Rgbe.{pixelOf, peak, dark, byteOf, bytesOf}
 use Rattle.loss.specs.Document.{docUnits}
-use Rattle.loss.specs.Kept.{stepOf, Kept, KeptAll}
+use Rattle.loss.specs.Kept.{Lies, step, Kept, KeptAll}
+use Rattle.loss.proofs.Laws.Kept.{lies-size}
 use Rattle.pixel.proofs.Laws.Units.{exact-plain, mag-is}
 use Rattle.pixel.proofs.Laws.Digits.{size-low}
 use Rattle.pixel.proofs.Laws.Bytes.{r-peak, g-peak, b-peak, coded-bytes, by-step, byte-lt}
@@ -40,16 +41,16 @@ sample-kept x N l h u =
     parts-lt : (a b n y u : ℕ) → a + b ≡ n → b < u → y ≡ a → n < y + u
     parts-lt a b n y u h l e = omega arith
 
-pub kept-by-document : (p : Pixel) → dark < peak p → peak p < 2 ^ 276 → KeptAll (stepOf p) p (pixelOf docUnits (bytesOf p))
-unfolding stepOf
-kept-by-document p l h =
+pub kept-by-document : (p : Pixel) → dark < peak p → peak p < 2 ^ 276 → (n : ℕ) → Lies p n → KeptAll (step n) p (pixelOf docUnits (bytesOf p))
+kept-by-document p l h n lies =
     let N = size (peak p) in
     let low : 43 ≤ N = size-low (peak p) l in
     let high : N ≤ 276 = size-le (peak p) 276 h in
     let under : (n : ℕ) → n ≤ peak p → n < 2 ^ N = λ n w. lt-of-le-of-lt w (size-lt (peak p)) in
-    subst (λ (q : Rgbe). KeptAll (2 ^ (N - 8)) p (pixelOf docUnits q)) (sym (coded-bytes p l h))
+    subst (λ (d : ℕ). KeptAll (step d) p (pixelOf docUnits (bytesOf p))) (lies-size p n lies)
+    (subst (λ (q : Rgbe). KeptAll (2 ^ (N - 8)) p (pixelOf docUnits q)) (sym (coded-bytes p l h))
     (record {
       r = sample-kept (p .r) N low high (under _ (r-peak p));
       g = sample-kept (p .g) N low high (under _ (g-peak p));
       b = sample-kept (p .b) N low high (under _ (b-peak p));
-    })
+    }))

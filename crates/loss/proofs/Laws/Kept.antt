@@ -18,7 +18,7 @@ use Rattle.pixel.proofs.Laws.Units.{zero-exact, exact-plain, mag-is}
 use Rattle.pixel.proofs.Laws.Samples.{shape, own-mag}
 use Rattle.loss.proofs.Laws.Scales.{doc-at, scales-meet}
 use Rattle.loss.proofs.Laws.Values.{crate-exact}
-use Rattle.pixel.proofs.Laws.Digits.{size-gt}
+use Rattle.pixel.proofs.Laws.Digits.{size-gt, size-is}
 use Rattle.pixel.proofs.Laws.Bytes.{r-peak, g-peak, b-peak, coded-bytes, black-bytes, by-step, byte-lt}
 
 -- ---- the whole number of any sample that is finite and not negative is its value
@@ -68,10 +68,7 @@ kept x N l h u =
 -- ---- a pixel whose largest lies from 2^(n-1) to below 2^n has n binary digits
 
 pub lies-size : (p : Pixel) (n : ℕ) → Lies p n → size (peak p) ≡ n
-lies-size p n l =
-    let low : n - 1 < size (peak p) = size-gt (peak p) (n - 1) (l .from) in
-    let high : size (peak p) ≤ n = size-le (peak p) n (l .below) in
-    omega (arith, low, high)
+lies-size p n l = size-is (peak p) n (l .from) (l .below)
 
 -- and every pixel that is not black has such an n
 pub lies-somewhere : (p : Pixel) → 0 < peak p → Lies p (size (peak p))
