@@ -4,6 +4,7 @@ pub mod Ahead
 pub mod Reached
 pub mod Least
 pub mod Numbered
+pub mod Known
 pub mod Refused
 pub mod Cut
 pub mod Samples
