@@ -2,14 +2,20 @@
 
 The reader, the row coder and the light below follow document 01, and share no code with the crates.
 """
+import glob
 import os
 import random
+import shutil
+import signal
+import socket
+import stat
 import subprocess
 import sys
 import time
 from fractions import Fraction
 
 SKY, FOLDER = sys.argv[1], sys.argv[2]
+TOP = os.path.dirname(SKY)
 PART = 1 << 20
 failures = []
 checked = 0
@@ -170,8 +176,9 @@ class Survey:
         self.length += times * len(write_row(store, width))
 
 
-def say_light(label, lit):
-    text = "none, every pixel is black" if lit is None else "%s = %d x 2^%d" % (decimal(lit), lit[0], lit[1])
+def say_light(label, lit, height):
+    none = "none, every pixel is black" if height else "none, there is no pixel"
+    text = none if lit is None else "%s = %d x 2^%d" % (decimal(lit), lit[0], lit[1])
     return "  %-17s%s" % (label, text)
 
 
@@ -183,8 +190,8 @@ def told(name, width, height, taken, after, survey):
         "  height           %d" % height,
         "  bytes taken      %d" % taken,
         "  bytes after      %d" % after,
-        say_light("darkest pixel", survey.darkest),
-        say_light("brightest pixel", survey.brightest),
+        say_light("darkest pixel", survey.darkest, height),
+        say_light("brightest pixel", survey.brightest, height),
         "  black pixels     %d" % survey.black,
         "  outside 97-159   %d" % survey.outside,
         "  if written anew  %d" % (len(header(width, height)) + survey.length),
@@ -241,8 +248,15 @@ def keep(name, data):
 
 
 def load(name):
+    if not there(name):
+        return None
     with open(os.path.join(FOLDER, name), "rb") as f:
         return f.read()
+
+
+def parts():
+    """Files of copies that are at work, or were stopped."""
+    return glob.glob(os.path.join(FOLDER, "*.part"))
 
 
 def there(name):
@@ -288,7 +302,7 @@ def wide():
     old = keep("old.hdr", b"#?RGBE\n\n-Y 1 +X 4\n" + bytes([10, 10, 10, 129, 20, 20, 20, 129, 1, 1, 1, 2]))
     expect("old runs info", answer("old.hdr", old, 4, 1, 18), 0, "info", "old.hdr")
     expect("old runs copy", ["old.hdr", "  refused          row 0 (the first row is 0) *"], 1, "copy", "old.hdr", "old2.hdr")
-    check("old runs left nothing", not there("old2.hdr") and not there("old2.hdr.part"))
+    check("old runs left nothing", not there("old2.hdr") and not parts())
 
 
 def cut():
@@ -367,6 +381,7 @@ def words():
 
 
 def copies():
+    os.mkdir(os.path.join(FOLDER, "elsewhere"))
     rng = random.Random(11)
     source = header(9, 2) + write_row(pixels(rng, 9, "noisy"), 9) + pixels(rng, 9, "noisy") + b"after"
     anew = bytearray(36)
@@ -388,16 +403,15 @@ def copies():
     run("copy", "--force", "self.hdr", "self.hdr")
     check("a file onto itself by --force", load("self.hdr") == file)
     keep("busy.hdr.part", b"theirs")
-    expect("a name that is taken", ["small.hdr", "  refused          busy.hdr.part is there already*"], 1, "copy", "small.hdr", "busy.hdr")
-    check("it is left alone", load("busy.hdr.part") == b"theirs" and not there("busy.hdr"))
+    run("copy", "small.hdr", "busy.hdr")
+    check("a name that is taken is not met", load("busy.hdr") == file and load("busy.hdr.part") == b"theirs")
+    os.remove(os.path.join(FOLDER, "busy.hdr.part"))
     keep("torn.hdr", source[:90])
     keep("whole.hdr", b"before")
     expect("a damaged input", ["torn.hdr", "  refused          number 9 in row *"], 1, "copy", "torn.hdr", "whole.hdr", "--force")
-    check("the output is as it was", load("whole.hdr") == b"before" and not there("whole.hdr.part"))
-    expect("no such folder", ["small.hdr", "  refused          nowhere/x.hdr.part cannot be made*"], 1, "copy", "small.hdr", "nowhere/x.hdr")
-    os.symlink("nothing", os.path.join(FOLDER, "link.hdr"))
-    expect("a link is kept", ["small.hdr", "  refused          link.hdr is there already*"], 1, "copy", "small.hdr", "link.hdr")
-    os.mkdir(os.path.join(FOLDER, "elsewhere"))
+    check("the output is as it was", load("whole.hdr") == b"before" and not parts())
+    expect("no such folder", ["small.hdr", "  refused          nowhere/x.hdr cannot be made: there is no folder nowhere"], 1, "copy", "small.hdr", "nowhere/x.hdr")
+    expect("a folder", ["small.hdr", "  refused          elsewhere is a folder: name a file in it"], 1, "copy", "small.hdr", "elsewhere")
     expect("from another folder", answer("../small.hdr", source, 9, 2, len(header(9, 2))), 0, "info", "../small.hdr", folder=os.path.join(FOLDER, "elsewhere"))
 
 
@@ -405,7 +419,158 @@ def full():
     """A disk that is full: a limit on the length of files, with its signal ignored, makes writes fail alike."""
     limit = ("bash", "-c", "trap '' XFSZ; ulimit -f 1000; exec \"$@\"", "sky")
     expect("a full disk", ["noisy.hdr", "  refused          writing failed*"], 1, "copy", "noisy.hdr", "full.hdr", prefix=limit)
-    check("it left nothing", not there("full.hdr") and not there("full.hdr.part"))
+    check("it left nothing", not there("full.hdr") and not parts())
+
+
+def kinds():
+    """What is no plain file is not replaced; a file that is replaced keeps its mode, and a new one has that of the umask."""
+    os.mkfifo(os.path.join(FOLDER, "fifo"))
+    end = socket.socket(socket.AF_UNIX)
+    end.bind(os.path.join(FOLDER, "socket"))
+    os.symlink("nothing", os.path.join(FOLDER, "link.hdr"))
+    keep("target.hdr", b"mine")
+    os.symlink("target.hdr", os.path.join(FOLDER, "alias.hdr"))
+    other, link = "no plain file and is kept", "a link and is kept: name the file that it leads to"
+    for name, words in (("fifo", other), ("socket", other), ("link.hdr", link), ("alias.hdr", link)):
+        before = os.lstat(os.path.join(FOLDER, name))
+        for force in ((), ("--force",)):
+            expect(" ".join((name, "is kept", *force)), ["small.hdr", "  refused          %s is %s" % (name, words)], 1, "copy", "small.hdr", name, *force)
+            check(name + " is as it was", os.lstat(os.path.join(FOLDER, name)).st_ino == before.st_ino)
+    check("what a link leads to is as it was", load("target.hdr") == b"mine")
+    keep("private.hdr", b"mine")
+    os.chmod(os.path.join(FOLDER, "private.hdr"), 0o600)
+    run("copy", "small.hdr", "private.hdr", "--force")
+    check("a replaced file keeps its mode", mode("private.hdr") == 0o600 and load("private.hdr") == load("new.hdr"))
+    run("copy", "small.hdr", "masked.hdr", prefix=("bash", "-c", "umask 027; exec \"$@\"", "sky"))
+    check("a new file follows the umask", mode("masked.hdr") == 0o640)
+
+
+def mode(name):
+    return stat.S_IMODE(os.stat(os.path.join(FOLDER, name)).st_mode)
+
+
+def lost():
+    """Output that cannot be written: status 2, and a line on standard error."""
+    for end in (">/dev/full", ">&-"):
+        for asked in (("help",), ("info", "small.hdr"), ("copy", "small.hdr", "lost.hdr", "--force"), ("--version",)):
+            prefix = ("bash", "-c", "exec \"$@\" " + end, "sky")
+            _, status, said = run(*asked, prefix=prefix)
+            check("lost " + end + " " + asked[0], status == 2 and said.startswith("sky: ") and said.count("\n") == 1)
+    check("the copy is whole", load("lost.hdr") == load("new.hdr") and not parts())
+    gone = subprocess.run(["bash", "-c", "\"$@\" | true; exit ${PIPESTATUS[0]}", "sky", SKY, "info", "small.hdr", "smooth.hdr"], cwd=FOLDER, stderr=subprocess.PIPE)
+    check("nobody reads", gone.returncode == 2 and gone.stderr.decode().startswith("sky: "))
+    run("copy", "noisy.hdr", "shut.hdr", prefix=("bash", "-c", "exec \"$@\" <&- 2>&-", "sky"))
+    check("nothing is said into the copy", load("shut.hdr") == load("noisy.hdr"))
+
+
+def begin(*words):
+    """Starts a copy, and waits until it has a file to write to."""
+    started = subprocess.Popen([SKY, *words], cwd=FOLDER, stdout=subprocess.PIPE, stderr=subprocess.PIPE, start_new_session=True)
+    while not parts() and started.poll() is None:
+        time.sleep(0.01)
+    return started
+
+
+def stopped():
+    """A copy that is stopped leaves OUT as it was, and nothing beside it; after a KILL, nothing that hinders a later copy."""
+    keep("stop.hdr", b"before")
+    for sent in (signal.SIGTERM, signal.SIGHUP, signal.SIGINT, signal.SIGKILL):
+        started = begin("copy", "noisy.hdr", "stop.hdr", "--force")
+        if sent == signal.SIGINT:
+            os.killpg(started.pid, sent)
+        else:
+            started.send_signal(sent)
+        started.communicate()
+        check("%s is how it ends" % sent.name, started.returncode == -sent)
+        check("%s left nothing" % sent.name, sent == signal.SIGKILL or not parts())
+        time.sleep(3)
+        check("%s left OUT" % sent.name, load("stop.hdr") == b"before")
+        for name in parts() if sent != signal.SIGKILL else ():
+            os.remove(name)
+    left = [os.path.getsize(name) for name in parts()]
+    check("its program ended too", all(n < os.path.getsize(os.path.join(FOLDER, "noisy.hdr")) for n in left))
+    _, status, _ = run("copy", "noisy.hdr", "stop.hdr", "--force")
+    check("a later copy", status == 0 and load("stop.hdr") == load("noisy.hdr"))
+    for name in parts():
+        os.remove(name)
+    two = [subprocess.Popen([SKY, "copy", "noisy.hdr", "once.hdr"], cwd=FOLDER, stdout=subprocess.PIPE, stderr=subprocess.PIPE) for _ in range(2)]
+    check("one of two copies", sorted((one.communicate(), one.returncode)[1] for one in two) == [0, 1] and load("once.hdr") == load("noisy.hdr") and not parts())
+
+
+def misled():
+    """Words that say what is wrong, and not something else."""
+    returns = "its lines end with CR LF, and have to end with LF alone"
+    for name, data, number, words in (
+        ("returns", b"#?RADIANCE\r\n\r\n-Y 1 +X 1\r\n\1\2\3\4", 1, returns),
+        ("returns-later", b"#?RADIANCE\nFORMAT=x\r\n\r\n-Y 1 +X 1\r\n\1\2\3\4", 2, returns),
+        ("digits", b"#?RADIANCE\n\n-Y 1 +X 12345678901234567890123\n", 3, "the height or the width is too large: 65535 is the most"),
+        ("digits-high", b"#?RADIANCE\n\n-Y 18446744073709551616 +X 1\n", 3, "the height or the width is too large: 65535 is the most"),
+        ("no-digits", b"#?RADIANCE\n\n-Y 1e99999999999999999999 +X 1\n", 3, "the height or the width is no number"),
+        ("no-returns", b"#?RADIANCE\n\n+Y 1 +X 1\n\n\r\n", 2, "the line of sizes is neither -Y height +X width nor +X width -Y height"),
+    ):
+        keep(name, data)
+        expect("words of " + name, [name, "  refused          number %d: %s" % (number, words)], 1, "info", name)
+    keep("returns-long", b"#?RADIANCE\nFORMAT=x\r\n\r\n-Y 1 +X 1\r\n" + b"\1" * 3000000)
+    expect("words of returns-long", ["returns-long", "  refused          the header has no end that can be found: " + returns], 1, "info", "returns-long")
+
+
+def shown():
+    """No control character of a name reaches the terminal."""
+    name = "a\x1b[2J\tb\n\x7f\u0085\u00dc.hdr"
+    shutil.copy(os.path.join(FOLDER, "noisy.hdr"), os.path.join(FOLDER, name))
+    plain = "a?[2J?b??\u00c2?\u00dc.hdr".encode().replace("\u00c2?".encode(), b"\xc2?")
+    for asked in (("info", name), ("copy", name, name), ("copy", name, "x" + name), ("copy", "small.hdr", name + "/x"), (name,)):
+        done = subprocess.run([SKY, *asked], cwd=FOLDER, stdout=subprocess.PIPE, stderr=subprocess.PIPE)
+        said = done.stdout + done.stderr
+        check("shown by " + asked[0], plain in said and all(x == 10 or 32 <= x != 127 for x in said) and "\u0085".encode() not in said)
+
+
+def asked():
+    for word in ("--help", "-h"):
+        check(word, run(word) == run("help"))
+    got, status, _ = run("--version")
+    kit = subprocess.run(["rt", "version"], stdout=subprocess.PIPE).stdout.decode().strip()
+    check("--version", status == 0 and len(got) == 3 and got[0].startswith("sky ") and got[0][4].isdigit() and got[1] == "proved by " + kit)
+
+
+def built():
+    """The program is built anew where something that it is made of is newer; a clone that cannot be written says so."""
+    clone, tools = os.path.join(FOLDER, "clone"), os.path.join(FOLDER, "tools")
+    os.mkdir(clone)
+    os.mkdir(tools)
+    for name in ("tools", "crates"):
+        shutil.copytree(os.path.join(TOP, name), os.path.join(clone, name))
+    for name in ("sky", "crates.txt", "bindings/rust/Cargo.toml"):
+        os.makedirs(os.path.dirname(os.path.join(clone, name)), exist_ok=True)
+        shutil.copy(os.path.join(TOP, name), os.path.join(clone, name))
+    keep("tools/rt", b"#!/bin/sh\necho built >>../built\nmkdir -p target/bin\ncp \"$PROGRAM\" target/bin/sky\n")
+    os.chmod(os.path.join(tools, "rt"), 0o755)
+    kit = os.environ.get("RATTLE_HOME") or os.path.dirname(os.path.dirname(os.path.realpath(shutil.which("rt"))))
+    more = {**os.environ, "PATH": tools + ":" + os.environ["PATH"], "RATTLE_HOME": kit, "PROGRAM": os.path.join(TOP, "target/bin/sky")}
+
+    def start(what, status, builds, prefix=()):
+        done = subprocess.run([*prefix, clone + "/sky", "help"], cwd="/", env=more, stdout=subprocess.PIPE, stderr=subprocess.PIPE)
+        check(what, done.returncode == status and (load("built") or b"").count(b"built") == builds)
+        return done.stderr.decode()
+
+    start("a first start builds", 0, 1)
+    start("a second one does not", 0, 1)
+    for i, name in enumerate(("crates/light/src/lib.rt", "crates/sky/proofs/Lib.antt", "crates/steps/specs/Loop.antt", "crates.txt")):
+        os.utime(os.path.join(clone, name))
+        start("built anew for " + name, 0, i + 2)
+        start("and only once", 0, i + 2)
+    os.utime(os.path.join(clone, "crates/kept/specs/Lib.antt"))
+    start("not for a crate that it is not made of", 0, 5)
+    shutil.rmtree(os.path.join(clone, "target"))
+    for folder, _, names in os.walk(clone):
+        os.chmod(folder, 0o555)
+    for folder in (FOLDER, tools):
+        os.chmod(folder, 0o755)
+    nobody = ("setpriv", "--reuid", "65534", "--regid", "65534", "--clear-groups") if os.getuid() == 0 else ()
+    said = start("a clone that cannot be written", 2, 5, nobody)
+    check("it says so in a line", said == "sky: it has to be built, and nothing can be written in %s\n" % clone)
+    for folder, _, names in os.walk(clone):
+        os.chmod(folder, 0o755)
 
 
 def main():
@@ -418,6 +583,13 @@ def main():
     large("smooth")
     large("noisy")
     full()
+    kinds()
+    lost()
+    stopped()
+    misled()
+    shown()
+    asked()
+    built()
     print("%d checked, %d differ" % (checked, len(failures)))
     sys.exit(1 if failures else 0)
 

@@ -22,6 +22,8 @@ Started (start.Ended o) = Unit {0}
 abbrev pub Ended : Outcome → Type 0
 Ended (outcome.Whole v) = Held v
 Ended (outcome.Refused r) = Unit {0}
+Ended (outcome.Returns number) = Unit {0}
+Ended outcome.TooLarge = Unit {0}
 Ended outcome.LongHeader = Unit {0}
 Ended (outcome.LongRow row) = Unit {0}
 Ended (outcome.Unreadable error) = Unit {0}

@@ -1,12 +1,14 @@
 // The words that the program is started with.
 use crate::copy;
 use crate::info;
+use crate::kept;
 use crate::say;
 
 // What the first word asks for.
 enum Command {
     Info,
     Copy,
+    Kept,
     Help,
     Unknown,
 }
@@ -19,7 +21,10 @@ fn command_of(word: &[u8]) -> Command {
     if check::same(word, b"copy") {
         return Command::Copy;
     }
-    if check::same(word, b"help") {
+    if check::same(word, b"kept") {
+        return Command::Kept;
+    }
+    if check::same(word, b"help") || check::same(word, b"--help") || check::same(word, b"-h") {
         return Command::Help;
     }
     Command::Unknown
@@ -29,7 +34,7 @@ fn command_of(word: &[u8]) -> Command {
 fn wrong(what: &[u8], word: &[u8]) -> bool {
     say::text(b"sky: ");
     say::text(what);
-    say::text(word);
+    say::name(word);
     say::text(b"; './sky help' says what can be asked\n");
     false
 }
@@ -83,49 +88,38 @@ fn tell_all(bytes: &mut [u8; 2097152], store: &mut [u8; 262140]) -> bool {
     all
 }
 
-// Whether a word is --force.
-fn is_force(i: usize) -> bool {
-    let mut word = io::buffer();
-    let n = os::arg(i, &mut word);
-    check::same(&word[..n], b"--force")
-}
-
-// Copies from the file of one word to that of another.
-fn copy_words(
-    i: usize,
-    j: usize,
-    force: bool,
-    bytes: &mut [u8; 2097152],
-    store: &mut [u8; 262140],
-    room: &mut [u8; 524288],
-) -> bool {
-    let mut name = io::buffer();
-    let n = os::arg(i, &mut name);
-    let mut out = io::buffer();
-    let m = os::arg(j, &mut out);
-    if n == 0 || m == 0 {
-        return wrong(b"a name is empty or too long", b"");
-    }
-    copy::copy(&name[..n], &out[..m], force, bytes, store, room)
-}
-
-// Copies as the words say: IN, OUT, and --force behind or before them.
+// Copies as the words say: IN, OUT, and the name under which OUT is written, which who starts the program has chosen.
 fn copy_by_words(
     bytes: &mut [u8; 2097152],
     store: &mut [u8; 262140],
     room: &mut [u8; 524288],
 ) -> bool {
-    let count = os::arg_count();
-    if count == 5 && is_force(4) {
-        return copy_words(2, 3, true, bytes, store, room);
-    }
-    if count == 5 && is_force(2) {
-        return copy_words(3, 4, true, bytes, store, room);
-    }
-    if count != 4 || is_force(2) || is_force(3) {
+    if os::arg_count() != 5 {
         return wrong(b"copy wants IN and OUT, and perhaps --force", b"");
     }
-    copy_words(2, 3, false, bytes, store, room)
+    let mut name = io::buffer();
+    let n = os::arg(2, &mut name);
+    let mut out = io::buffer();
+    let m = os::arg(3, &mut out);
+    let mut part = io::buffer();
+    let k = os::arg(4, &mut part);
+    if n == 0 || m == 0 || k == 0 {
+        return wrong(b"a name is empty or too long", b"");
+    }
+    copy::copy(&name[..n], &out[..m], &part[..k], bytes, store, room)
+}
+
+// Says why OUT is left as it is, by the words of who looked: IN, OUT, why, and OUT's folder.
+fn kept_by_words() -> bool {
+    let mut name = io::buffer();
+    let n = os::arg(2, &mut name);
+    let mut out = io::buffer();
+    let m = os::arg(3, &mut out);
+    let mut why = io::buffer();
+    let k = os::arg(4, &mut why);
+    let mut folder = io::buffer();
+    let l = os::arg(5, &mut folder);
+    kept::tell(&name[..n], &out[..m], &why[..k], &folder[..l])
 }
 
 // Does what the words ask, and answers whether it was done.
@@ -143,6 +137,7 @@ pub(crate) fn answer(
     match command {
         Command::Info => tell_all(bytes, store),
         Command::Copy => copy_by_words(bytes, store, room),
+        Command::Kept => kept_by_words(),
         Command::Help => help(),
         Command::Unknown => wrong(b"unknown word ", &word[..n]),
     }

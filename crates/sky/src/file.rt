@@ -1,5 +1,7 @@
 // A file that is read by a window: 2 MiB of it are held, and a header or a row is looked for in the 1 MiB from its start on.
 // What is read or refused in such a part is read or refused alike in the whole file: `header-of-file`, `refusal-of-file` and `crate-row-of-file`, in the laws of `window`.
+use crate::fill;
+use crate::flaw;
 use crate::outcome::Outcome;
 use header::Head;
 use libc::SEEK_END;
@@ -24,46 +26,6 @@ pub(crate) struct View {
     pub before: usize,
 }
 
-// The system's number of a read that failed; 0 where it did not.
-fn error_of(got: isize) -> i32 {
-    if got < 0 { os::errno() } else { 0 }
-}
-
-// Reads once behind the bytes that are held.
-fn read_some(fd: i32, bytes: &mut [u8], view: View) -> View
-    requires { ⌜ (view .at ≤ view .end) × (view .end ≤ length (now bytes)) ⌝ }
-    ensures { λ r. ⌜ (r .at ≤ r .end) × (r .end ≤ length (now (bytes .entry))) ⌝ }
-{
-    let end = view.end;
-    let room = bytes.len() - end;
-    let got = libc::read(fd, &mut bytes[end..]);
-    let n = steps::least(io::count(got, bytes), room);
-    View {
-        at: view.at,
-        end: end + n,
-        over: n == 0,
-        error: error_of(got),
-        before: view.before,
-    }
-}
-
-// Reads until the window is full or the file ends. A read brings one byte or more, so that the turns are enough.
-fn fill(fd: i32, bytes: &mut [u8; 2097152], view: View) -> View
-    requires { ⌜ Held view ⌝ }
-    ensures { λ r. ⌜ Held r ⌝ }
-{
-    let mut v = view;
-    let mut turns = 2097153usize;
-    while 0 < turns {
-        if v.over || v.end == 2097152 {
-            return v;
-        }
-        v = read_some(fd, bytes, v);
-        turns -= 1;
-    }
-    v
-}
-
 // The window moved on, so that it starts at the next byte.
 fn refill(fd: i32, bytes: &mut [u8; 2097152], view: View) -> View
     requires { ⌜ Held view ⌝ }
@@ -77,7 +39,7 @@ fn refill(fd: i32, bytes: &mut [u8; 2097152], view: View) -> View
         error: view.error,
         before: std::num::wrapping_add_usize(view.before, view.at),
     };
-    fill(fd, bytes, moved)
+    fill::fill(fd, bytes, moved)
 }
 
 // At least 1 MiB from the next byte on, or the rest of the file.
@@ -159,7 +121,7 @@ pub(crate) fn open(fd: i32, bytes: &mut [u8; 2097152]) -> Start
         error: 0,
         before: 0,
     };
-    let view = fill(fd, bytes, nothing);
+    let view = fill::fill(fd, bytes, nothing);
     if view.error != 0 {
         return Start::Ended(Outcome::Unreadable { error: view.error });
     }
@@ -167,8 +129,8 @@ pub(crate) fn open(fd: i32, bytes: &mut [u8; 2097152]) -> Start
     let answer = head_in(bytes, end, goes_on(view, end));
     match answer {
         HeadPart::Read(head) => start_at(head, view),
-        HeadPart::Refused(r) => Start::Ended(Outcome::Refused(r)),
-        HeadPart::Long => Start::Ended(Outcome::LongHeader),
+        HeadPart::Refused(r) => Start::Ended(flaw::refused(bytes, end, r)),
+        HeadPart::Long => Start::Ended(flaw::long(bytes, end)),
     }
 }
 

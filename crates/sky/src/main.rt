@@ -1,10 +1,17 @@
 // What a person asks of a sky file: its sizes and its light, or a copy that is written anew.
+mod anew;
 mod ask;
 mod copy;
 mod file;
+mod fill;
+mod flaw;
 mod info;
+mod kept;
+mod lit;
 mod name;
 mod outcome;
+mod pen;
+mod rows;
 mod say;
 
 // What the program holds: a window of 2 MiB on the file, the widest row, and room for what is written.

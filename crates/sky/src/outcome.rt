@@ -9,6 +9,8 @@ use steps::refusal::Refusal;
 pub(crate) enum Outcome {
     Whole(View),
     Refused(Refusal),
+    Returns { number: u8 },
+    TooLarge,
     LongHeader,
     LongRow { row: usize },
     Unreadable { error: i32 },
@@ -36,16 +38,31 @@ fn sentence(number: u8) {
     }
 }
 
+// The number of a refusal.
+fn say_number(number: u8) {
+    say::text(b"  refused          number ");
+    say::number(steps::wide(number));
+}
+
 // The number of a refusal, the row where it names one, and the sentence.
 fn say_refusal(r: Refusal) {
-    say::text(b"  refused          number ");
-    say::number(steps::wide(r.number));
+    say_number(r.number);
     if r.number == refusal::BYTES_END {
         say_row(b" in row ", r.place);
     }
     say::text(b": ");
     sentence(r.number);
     say::text(b"\n");
+}
+
+// Lines that end in a carriage return and a line feed; the number is 0 where the header was not read to its end.
+fn say_returns(number: u8) {
+    if number == 0 {
+        say::text(b"  refused          the header has no end that can be found");
+    } else {
+        say_number(number);
+    }
+    say::text(b": its lines end with CR LF, and have to end with LF alone\n");
 }
 
 // A row, as document 01 counts them.
@@ -60,6 +77,11 @@ pub(crate) fn say_outcome(outcome: Outcome) {
     match outcome {
         Outcome::Whole(view) => {}
         Outcome::Refused(r) => say_refusal(r),
+        Outcome::Returns { number } => say_returns(number),
+        Outcome::TooLarge => {
+            say_number(refusal::SIZE);
+            say::text(b": the height or the width is too large: 65535 is the most\n");
+        }
         Outcome::LongHeader => {
             say::text(
                 b"  refused          the header is longer than the 1048576 bytes that are looked at\n",

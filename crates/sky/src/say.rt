@@ -2,10 +2,31 @@
 use libc::STDERR_FILENO;
 use libc::STDOUT_FILENO;
 ghost use Prim.Native.Nat.{_≤_, _<_};
+ghost use lib.ListN.{length};
 
 // A text.
 pub(crate) fn text(bytes: &[u8]) {
     io::write_all(STDOUT_FILENO, bytes);
+}
+
+// The first n of some bytes.
+fn front(stream: i32, bytes: &[u8], n: usize)
+    requires { ⌜ n ≤ length (now bytes) ⌝ }
+{
+    io::write_all(stream, &bytes[..n]);
+}
+
+// A name, in which a terminal finds nothing to act on.
+fn show(stream: i32, name: &[u8]) {
+    let mut bytes = io::buffer();
+    let n = steps::least(name.len(), 4096);
+    plain::put(name, n, &mut bytes);
+    front(stream, &bytes, n);
+}
+
+// The name of a file, or a word that was not understood.
+pub(crate) fn name(name: &[u8]) {
+    show(STDOUT_FILENO, name);
 }
 
 // A number in decimal.
@@ -24,7 +45,7 @@ pub(crate) fn field(label: &[u8], n: usize) {
 pub(crate) fn begin(shown: bool, name: &[u8]) {
     if shown {
         io::write_all(STDERR_FILENO, b"sky: ");
-        io::write_all(STDERR_FILENO, name);
+        show(STDERR_FILENO, name);
     }
 }
 

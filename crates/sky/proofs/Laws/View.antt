@@ -63,8 +63,8 @@ module _ (r : HeadPart) (x : Head) (n : ℕ) (h : HeadWithin n r) (e : r ≡ hea
 pub row-next : (r : RowPart) (next n m a b : ℕ) → RowWithin n r → r ≡ row.Read next → n ≤ m → a ≡ next → b ≡ m → a ≤ b
 row-next r next n m a b h e l ea eb = let k = subst (RowWithin n) e h in omega arith
 
-pub none-black : (t : Totals) → t ≡ none → t .black ≤ 0 * 65535
+pub none-black : (t : Totals) → t ≡ none → t .black ≤ 0
 none-black t e = rw e (omega arith)
 
-pub none-masked : (t : Totals) → t ≡ none → t .masked ≤ 0 * 65535
+pub none-masked : (t : Totals) → t ≡ none → t .masked ≤ 0
 none-masked t e = rw e (omega arith)

@@ -28,8 +28,14 @@ start-at-requires c κs = (search head-width, search head-height, search head-ta
 enum-known-answer-2 : tie.Need-enum-known-answer-2
 enum-known-answer-2 c = search needs
 
+refused-requires : tie.Need-refused-requires
+refused-requires c κs = search needs
+
 enum-told : tie.Need-enum-told
 enum-told c = search needs
+
+long-requires : tie.Need-long-requires
+long-requires c κs = search needs
 
 returns-2 : tie.Need-returns-2
 returns-2 c = search needs
@@ -52,7 +58,9 @@ open-spec =
     enum-known-answer
     start-at-requires
     enum-known-answer-2
+    refused-requires
     enum-told
+    long-requires
     returns-2
     returns-3
     returns-4)

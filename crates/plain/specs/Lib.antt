@@ -1,0 +1,2 @@
+-- A name as a terminal may be given it.
+pub mod Plain

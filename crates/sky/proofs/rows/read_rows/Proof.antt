@@ -1,0 +1,62 @@
+-- `sky::rows::read_rows` is safe and ends. The invariant: a whole outcome holds a window, and the counts have room.
+use borrow.Author.Needs.{needs}
+use Prim.Native.Nat.{_*_, _-_, _≤_}
+use native.Mathlib.Omega.{arith}
+use Rattle.sky.specs.View.{Ended}
+use Rattle.sky.proofs.Laws.View.{ended-at, ended-end}
+use Rattle.sky.proofs.rows.read_rows.Statement.{statement}
+use Rattle.sky.proofs.rows.read_rows.Tie as tie
+
+abbrev Inv-loop : tie.InvT-loop
+Inv-loop fd bytes₀ store₀ shown width height found₀ k₀ bytes store found k =
+    (width ≤ 65535) × (height ≤ 65535) × (k ≤ height) × (found .totals .black ≤ k * 65535) × (found .totals .masked ≤ k * 65535) × (found .length ≤ k * 262144) × Ended (found .outcome)
+
+abbrev μ-loop : tie.MeasureT-loop
+μ-loop fd bytes₀ store₀ shown width height found₀ k₀ bytes store found k = height - k
+
+nothing-requires : tie.Need-nothing-requires Inv-loop μ-loop
+nothing-requires c κs = search needs
+
+loop-holds : tie.Need-loop-holds Inv-loop μ-loop
+loop-holds c = search needs
+
+enum-known-outcome : tie.Need-enum-known-outcome Inv-loop μ-loop
+enum-known-outcome c = search needs
+
+returns : tie.Need-returns Inv-loop μ-loop
+returns c = search needs
+
+read-row-requires : tie.Need-read-row-requires Inv-loop μ-loop
+read-row-requires c κs = ((search ended-at, search ended-end), search needs)
+
+progress-requires : tie.Need-progress-requires Inv-loop μ-loop
+progress-requires c κs = search needs
+
+add-k : tie.Need-add-k Inv-loop μ-loop
+add-k c = search needs
+
+loop-less : tie.Need-loop-less Inv-loop μ-loop
+loop-less c = search needs
+
+loop-again : tie.Need-loop-again Inv-loop μ-loop
+loop-again c = (search needs, search needs, search needs, omega arith, omega arith, omega arith, search needs)
+
+returns-2 : tie.Need-returns-2 Inv-loop μ-loop
+returns-2 c = search needs
+
+pub read-rows-spec : {M : Type 1} → statement M
+read-rows-spec =
+    tie.close
+    (tie.spec
+    Inv-loop
+    μ-loop
+    nothing-requires
+    loop-holds
+    enum-known-outcome
+    returns
+    read-row-requires
+    progress-requires
+    add-k
+    loop-less
+    loop-again
+    returns-2)

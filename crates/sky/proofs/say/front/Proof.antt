@@ -1,0 +1,17 @@
+-- `sky::say::front` is safe.
+use borrow.Author.Needs.{needs}
+use Rattle.fields.proofs.Laws.Filled.{front}
+use Rattle.sky.proofs.say.front.Statement.{statement}
+use Rattle.sky.proofs.say.front.Tie as tie
+
+slice-aggregate-write-all : tie.Need-slice-aggregate-write-all
+slice-aggregate-write-all c = search front
+
+write-all-requires : tie.Need-write-all-requires
+write-all-requires c κs = search needs
+
+returns : tie.Need-returns
+returns c = search needs
+
+pub front-spec : {M : Type 1} → statement M
+front-spec = tie.close (tie.spec slice-aggregate-write-all write-all-requires returns)

@@ -1,0 +1,159 @@
+// The rows of a picture, read one by one and written anew.
+use crate::file;
+use crate::file::Step;
+use crate::file::View;
+use crate::outcome;
+use crate::outcome::Outcome;
+use crate::pen;
+use crate::pen::Pen;
+use crate::say;
+use header::Head;
+ghost use Prim.Native.Nat.{_≤_};
+ghost use Rattle.sky.specs.View.{Held, Ended};
+
+// Whether a row of the store cannot be written so that it is read as it is: a flat one with a pixel that starts 1, 1, 1.
+fn is_old_run(store: &[u8; 262140], width: usize) -> bool
+    requires { ⌜ width ≤ 65535 ⌝ }
+{
+    if runs::is_coded(width) {
+        return false;
+    }
+    survey::repeat::any_repeat(store, width)
+}
+
+// How the rows end, and what was written.
+pub(crate) struct Copied {
+    pub outcome: Outcome,
+    pub pen: Pen,
+}
+
+// Writes the row k, which is in the store; the window stands behind it.
+fn write_row(
+    to: i32,
+    store: &[u8; 262140],
+    room: &mut [u8; 524288],
+    width: usize,
+    k: usize,
+    view: View,
+    last: Pen,
+) -> Copied
+    requires { ⌜ Held view ⌝ }
+    requires { ⌜ (width ≤ 65535) × (last .put ≤ 262144) ⌝ }
+    ensures { λ r. ⌜ Ended (r .outcome) ⌝ }
+    ensures { λ r. ⌜ r .pen .put ≤ 262144 ⌝ }
+{
+    if is_old_run(store, width) {
+        let outcome = Outcome::OldRun { row: k };
+        return Copied { outcome, pen: last };
+    }
+    let pen = pen::put_row(to, store, width, room, last);
+    if pen.failed {
+        let outcome = Outcome::Unwritten;
+        return Copied { outcome, pen };
+    }
+    let outcome = Outcome::Whole(view);
+    Copied { outcome, pen }
+}
+
+// Reads the row k and writes it anew.
+fn copy_row(
+    fd: i32,
+    to: i32,
+    bytes: &mut [u8; 2097152],
+    store: &mut [u8; 262140],
+    room: &mut [u8; 524288],
+    width: usize,
+    k: usize,
+    view: View,
+    pen: Pen,
+) -> Copied
+    requires { ⌜ Held view ⌝ }
+    requires { ⌜ (width ≤ 65535) × (pen .put ≤ 262144) ⌝ }
+    ensures { λ r. ⌜ Ended (r .outcome) ⌝ }
+    ensures { λ r. ⌜ r .pen .put ≤ 262144 ⌝ }
+{
+    let step = file::next_row(fd, bytes, store, width, k, view);
+    match step {
+        Step::Row(next) => write_row(to, store, room, width, k, next, pen),
+        Step::Ended(outcome) => Copied { outcome, pen },
+    }
+}
+
+// Reads the rows one by one and writes each anew.
+fn copy_rows(
+    fd: i32,
+    to: i32,
+    bytes: &mut [u8; 2097152],
+    store: &mut [u8; 262140],
+    room: &mut [u8; 524288],
+    head: Head,
+    view: View,
+    shown: bool,
+    start: Pen,
+) -> Copied
+    requires { ⌜ Held view ⌝ }
+    requires { ⌜ (head .width ≤ 65535) × (head .height ≤ 65535) × (start .put ≤ 262144) ⌝ }
+    ensures { λ r. ⌜ Ended (r .outcome) ⌝ }
+    ensures { λ r. ⌜ r .pen .put ≤ 262144 ⌝ }
+{
+    let width = head.width;
+    let height = head.height;
+    let mut outcome = Outcome::Whole(view);
+    let mut pen = start;
+    let mut k = 0;
+    while k < height {
+        let Outcome::Whole(v) = outcome else {
+            return Copied { outcome, pen };
+        };
+        let copied = copy_row(fd, to, bytes, store, room, width, k, v, pen);
+        outcome = copied.outcome;
+        pen = copied.pen;
+        say::progress(shown, k, height);
+        k += 1;
+    }
+    Copied { outcome, pen }
+}
+
+// Writes out what is left of a whole file, down to the disk.
+fn finish(to: i32, room: &[u8; 524288], copied: Copied) -> Copied
+    requires { ⌜ copied .pen .put ≤ 262144 ⌝ }
+    requires { ⌜ Ended (copied .outcome) ⌝ }
+    ensures { λ r. ⌜ Ended (r .outcome) ⌝ }
+{
+    let outcome = copied.outcome;
+    let last = copied.pen;
+    if outcome::is_whole(outcome) {
+        let pen = pen::flush(to, room, last);
+        if pen.failed || libc::fsync(to) != 0 {
+            let outcome = Outcome::Unwritten;
+            return Copied { outcome, pen };
+        }
+        return Copied { outcome, pen };
+    }
+    copied
+}
+
+// Writes the header and the rows.
+pub(crate) fn copy_all(
+    fd: i32,
+    to: i32,
+    bytes: &mut [u8; 2097152],
+    store: &mut [u8; 262140],
+    room: &mut [u8; 524288],
+    head: Head,
+    view: View,
+    shown: bool,
+) -> Copied
+    requires { ⌜ Held view ⌝ }
+    requires { ⌜ (head .width ≤ 65535) × (head .height ≤ 65535) ⌝ }
+    ensures { λ r. ⌜ Ended (r .outcome) ⌝ }
+{
+    steps::clear(store, 4 * head.width);
+    let start = Pen {
+        put: pen::write_header(head.width, head.height, room),
+        written: 0,
+        failed: false,
+    };
+    let copied = copy_rows(fd, to, bytes, store, room, head, view, shown, start);
+    finish(to, room, copied)
+}
