@@ -1,5 +1,6 @@
 -- The totals over the pixels of a row, and so, row by row, of a file.
-use Prim.Native.Nat.{ℕ, zero, suc, _+_}
+use Prim.Native.Nat.{ℕ, zero, suc, _+_, _*_, _<_}
+use mathlib.Core.Path.{_≡_}
 use mathlib.Core.Bool.{Bool}
 use mathlib.Core.List.{List}
 use Rattle.steps.specs.Loop.{pick}
@@ -13,18 +14,26 @@ use Rattle.survey.specs.declared.Totals.{Totals}
 abbrev pub none : Totals
 none = record { black = 0; masked = 0; darkest = black; brightest = black }
 
--- one more where it is so
-abbrev pub counted : Bool → ℕ
-counted b = pick b 1 0
+-- so many where it is so
+abbrev pub times : Bool → ℕ → ℕ
+times b n = pick b n 0
 
--- one pixel more
-unfoldable pub seen : Rgbe → Totals → Totals
-seen q t = record {
-  black = t .black + counted (isBlack q);
-  masked = t .masked + counted (isMasked q);
+-- n pixels more that are the same
+unfoldable pub seenTimes : ℕ → Rgbe → Totals → Totals
+seenTimes n q t = record {
+  black = t .black + times (isBlack q) n;
+  masked = t .masked + times (isMasked q) n;
   darkest = darker (t .darkest) q;
   brightest = brighter (t .brightest) q;
 }
+
+-- one pixel more
+abbrev pub seen : Rgbe → Totals → Totals
+seen = seenTimes 1
+
+-- the n pixels of the row store from byte i on are the same
+abbrev pub Alike : List ℕ → ℕ → ℕ → Type 0
+Alike store i n = (k : ℕ) → k < n → rgbeAt store (i + 4 * k) ≡ rgbeAt store i
 
 -- n pixels of the row store more, from byte i on
 unfoldable pub surveyOf : List ℕ → ℕ → ℕ → Totals → Totals

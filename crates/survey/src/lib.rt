@@ -6,7 +6,8 @@ ghost use mathlib.Core.Path.{_≡_};
 ghost use Prim.Native.Nat.{_+_, _*_, _≤_, _<_};
 ghost use lib.ListN.{length};
 ghost use Rattle.reader.specs.Samples.{rgbeAt};
-ghost use Rattle.survey.specs.Survey.{none, counted, seen, surveyOf};
+ghost use mathlib.Core.Bool.{true};
+ghost use Rattle.survey.specs.Survey.{none, times, seenTimes, Alike, surveyOf};
 
 // What was found so far. Before a pixel that shows light was met, the darkest and the brightest are 0, 0, 0, 0.
 pub struct Totals {
@@ -47,25 +48,61 @@ fn pixel_at(store: &[u8], i: usize) -> Rgbe
     }
 }
 
-// One more where it is so.
-fn one_if(b: bool) -> usize
-    ensures { λ r. ⌜ r ≡ counted b ⌝ }
-    ensures { λ r. ⌜ r ≤ 1 ⌝ }
+// Whether two pixels are the same.
+fn is_same(store: &[u8], i: usize, j: usize) -> bool
+    requires { ⌜ (i + 4 ≤ length (now store)) × (j + 4 ≤ length (now store)) ⌝ }
+    ensures { λ r. ⌜ (r ≡ true → rgbeAt (now (store .entry)) j ≡ rgbeAt (now (store .entry)) i) ⌝ }
 {
-    if b { 1 } else { 0 }
+    if store[i] != store[j] {
+        return false;
+    }
+    if store[i + 1] != store[j + 1] {
+        return false;
+    }
+    if store[i + 2] != store[j + 2] {
+        return false;
+    }
+    store[i + 3] == store[j + 3]
 }
 
-// The totals with one pixel more.
-fn with_pixel(q: Rgbe, t: Totals) -> Totals
-    requires { ⌜ (t .black < 18446744073709551615) × (t .masked < 18446744073709551615) ⌝ }
-    ensures { λ r. ⌜ r ≡ seen q t ⌝ }
-    ensures { λ r. ⌜ (r .black ≤ t .black + 1) × (r .masked ≤ t .masked + 1) ⌝ }
+// How many of the n pixels from a place on are the same as the first, which is one of them.
+fn alike(store: &[u8], i: usize, n: usize) -> usize
+    requires { ⌜ (0 < n) × (i + 4 * n ≤ length (now store)) ⌝ }
+    ensures { λ r. ⌜ (0 < r) × (r ≤ n) ⌝ }
+    ensures { λ r. ⌜ Alike (now (store .entry)) i r ⌝ }
+{
+    let mut k = 1;
+    let mut j = i + 4;
+    while k < n {
+        if is_same(store, i, j) {
+            j += 4;
+            k += 1;
+        } else {
+            return k;
+        }
+    }
+    k
+}
+
+// So many where it is so.
+fn times(b: bool, n: usize) -> usize
+    ensures { λ r. ⌜ r ≡ times b n ⌝ }
+    ensures { λ r. ⌜ r ≤ n ⌝ }
+{
+    if b { n } else { 0 }
+}
+
+// The totals with n pixels more that are the same.
+fn with_pixels(q: Rgbe, n: usize, t: Totals) -> Totals
+    requires { ⌜ (t .black + n < 18446744073709551616) × (t .masked + n < 18446744073709551616) ⌝ }
+    ensures { λ r. ⌜ r ≡ seenTimes n q t ⌝ }
+    ensures { λ r. ⌜ (r .black ≤ t .black + n) × (r .masked ≤ t .masked + n) ⌝ }
 {
     let darkest = t.darkest;
     let brightest = t.brightest;
     Totals {
-        black: t.black + one_if(light::is_black(q)),
-        masked: t.masked + one_if(light::is_masked(q)),
+        black: t.black + times(light::is_black(q), n),
+        masked: t.masked + times(light::is_masked(q), n),
         darkest: light::darker(darkest, q),
         brightest: light::brighter(brightest, q),
     }
@@ -81,9 +118,10 @@ pub fn row(store: &[u8], n: usize, totals: Totals) -> Totals
     let mut i = 0;
     let mut left = n;
     while 0 < left {
-        t = with_pixel(pixel_at(store, i), t);
-        i += 4;
-        left -= 1;
+        let k = alike(store, i, left);
+        t = with_pixels(pixel_at(store, i), k, t);
+        i += 4 * k;
+        left -= k;
     }
     t
 }

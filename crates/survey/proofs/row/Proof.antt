@@ -18,11 +18,17 @@ abbrev μ-loop : tie.MeasureT-loop
 loop-holds : tie.Need-loop-holds Inv-loop μ-loop
 loop-holds c = (search needs, search needs, search needs, refl)
 
+alike-requires : tie.Need-alike-requires Inv-loop μ-loop
+alike-requires c κs = search needs
+
 pixel-at-requires : tie.Need-pixel-at-requires Inv-loop μ-loop
 pixel-at-requires c κs = search needs
 
-with-pixel-requires : tie.Need-with-pixel-requires Inv-loop μ-loop
-with-pixel-requires c κs = search needs
+with-pixels-requires : tie.Need-with-pixels-requires Inv-loop μ-loop
+with-pixels-requires c κs = search needs
+
+mul-i : tie.Need-mul-i Inv-loop μ-loop
+mul-i c = search needs
 
 add-i : tie.Need-add-i Inv-loop μ-loop
 add-i c = search needs
@@ -46,8 +52,10 @@ row-spec =
     Inv-loop
     μ-loop
     loop-holds
+    alike-requires
     pixel-at-requires
-    with-pixel-requires
+    with-pixels-requires
+    mul-i
     add-i
     sub-left
     loop-less
