@@ -1,12 +1,15 @@
 // The words that the program is started with.
+use crate::brief;
 use crate::copy;
 use crate::info;
 use crate::kept;
 use crate::say;
+use crate::stops;
 
 // What the first word asks for.
 enum Command {
     Info,
+    Stops,
     Copy,
     Kept,
     Help,
@@ -17,6 +20,9 @@ enum Command {
 fn command_of(word: &[u8]) -> Command {
     if check::same(word, b"info") {
         return Command::Info;
+    }
+    if check::same(word, b"stops") {
+        return Command::Stops;
     }
     if check::same(word, b"copy") {
         return Command::Copy;
@@ -45,47 +51,139 @@ fn help() -> bool {
     say::text(
         b"  ./sky info FILE..            sizes, light and lengths of each file, or why it is refused\n",
     );
+    say::text(
+        b"  ./sky info --brief FILE..    the same in a table: one line to a file, with tabs\n",
+    );
+    say::text(
+        b"  ./sky stops FILE..           how many pixels have their light in each power of two, as a chart\n",
+    );
     say::text(b"  ./sky copy IN OUT [--force]  the picture of IN, written anew to OUT\n");
-    say::text(b"  ./sky help                   this text\n\n");
+    say::text(b"  ./sky help                   this text; so do --help and -h\n");
+    say::text(b"  ./sky --version              the version, and the kit that proved it\n\n");
+    help_more();
+    true
+}
+
+// What the answers mean.
+fn help_more() {
     say::text(
         b"A pixel's light is its largest sample. 'outside 97-159' counts the pixels that show\n",
     );
     say::text(b"light and have an exponent byte at which programs differ in brightness.\n");
     say::text(
+        b"The chart of 'stops' goes by the Radiance document, darkest first. A bar '|' marks light from\n",
+    );
+    say::text(b"2^-32 to below 2^31, which zune-hdr, and so 'info', shows as it is.\n");
+    say::text(
         b"A copy has the same pixels, bit for bit, under a header of its own: comments and the lines\n",
     );
     say::text(
-        b"EXPOSURE and FORMAT are not kept. An OUT that is there is kept too, unless --force is given.\n",
+        b"EXPOSURE and FORMAT are not kept. An OUT that is there is kept, unless --force is given; it keeps\n",
     );
-    say::text(b"The last line is 'ok' or 'refused'.\n");
-    true
+    say::text(
+        b"its mode then. A folder, a link or anything that is no plain file is never replaced.\n",
+    );
+    say::text(
+        b"The last line is 'ok' or 'refused', and the exit status 0 or 1; the table says how many are\n",
+    );
+    say::text(
+        b"whole and refused on standard error. The status is 2 where an answer cannot be written.\n",
+    );
+}
+
+// What is said of each file.
+enum Form {
+    Lines,
+    Brief,
+    Chart,
 }
 
 // Says what the file of one word holds.
-fn tell_word(i: usize, bytes: &mut [u8; 2097152], store: &mut [u8; 262140]) -> bool {
+fn tell_word(form: Form, i: usize, bytes: &mut [u8; 2097152], store: &mut [u8; 262140]) -> bool {
     let mut name = io::buffer();
     let n = os::arg(i, &mut name);
     if os::errno() != 0 {
         return wrong(b"a name is too long", b"");
     }
-    info::tell(&name[..n], bytes, store)
+    match form {
+        Form::Lines => info::tell(&name[..n], bytes, store),
+        Form::Brief => brief::tell(&name[..n], bytes, store),
+        Form::Chart => stops::tell(&name[..n], bytes, store),
+    }
+}
+
+// How many files are whole, and how many are refused.
+struct Tally {
+    whole: usize,
+    refused: usize,
+}
+
+// One file more.
+fn with_file(tally: Tally, ok: bool) -> Tally {
+    if ok {
+        return Tally {
+            whole: std::num::wrapping_add_usize(tally.whole, 1),
+            refused: tally.refused,
+        };
+    }
+    Tally {
+        whole: tally.whole,
+        refused: std::num::wrapping_add_usize(tally.refused, 1),
+    }
+}
+
+// Says what each file holds, from one word on.
+fn tell_all(form: Form, from: usize, bytes: &mut [u8; 2097152], store: &mut [u8; 262140]) -> Tally {
+    let count = os::arg_count();
+    let mut tally = Tally {
+        whole: 0,
+        refused: 0,
+    };
+    let mut i = from;
+    while i < count {
+        tally = with_file(tally, tell_word(form, i, bytes, store));
+        i += 1;
+    }
+    tally
+}
+
+// A table of the files from the third word on.
+fn tell_table(bytes: &mut [u8; 2097152], store: &mut [u8; 262140]) -> bool {
+    if os::arg_count() < 4 {
+        return wrong(b"info wants a file", b"");
+    }
+    brief::names();
+    let tally = tell_all(Form::Brief, 3, bytes, store);
+    brief::end(tally.whole, tally.refused);
+    tally.refused == 0
+}
+
+// Whether the second word is --brief.
+fn is_brief() -> bool {
+    let mut word = io::buffer();
+    let n = os::arg(2, &mut word);
+    check::same(&word[..n], b"--brief")
 }
 
 // Says what each file holds, and answers whether all are whole.
-fn tell_all(bytes: &mut [u8; 2097152], store: &mut [u8; 262140]) -> bool {
-    let count = os::arg_count();
-    if count < 3 {
+fn info_by_words(bytes: &mut [u8; 2097152], store: &mut [u8; 262140]) -> bool {
+    if is_brief() {
+        return tell_table(bytes, store);
+    }
+    if os::arg_count() < 3 {
         return wrong(b"info wants a file", b"");
     }
-    let mut all = true;
-    let mut i = 2;
-    while i < count {
-        if !tell_word(i, bytes, store) {
-            all = false;
-        }
-        i += 1;
+    let tally = tell_all(Form::Lines, 2, bytes, store);
+    tally.refused == 0
+}
+
+// Shows the light of each file, and answers whether all are whole.
+fn stops_by_words(bytes: &mut [u8; 2097152], store: &mut [u8; 262140]) -> bool {
+    if os::arg_count() < 3 {
+        return wrong(b"stops wants a file", b"");
     }
-    all
+    let tally = tell_all(Form::Chart, 2, bytes, store);
+    tally.refused == 0
 }
 
 // Copies as the words say: IN, OUT, and the name under which OUT is written, which who starts the program has chosen.
@@ -135,7 +233,8 @@ pub(crate) fn answer(
     let n = os::arg(1, &mut word);
     let command = command_of(&word[..n]);
     match command {
-        Command::Info => tell_all(bytes, store),
+        Command::Info => info_by_words(bytes, store),
+        Command::Stops => stops_by_words(bytes, store),
         Command::Copy => copy_by_words(bytes, store, room),
         Command::Kept => kept_by_words(),
         Command::Help => help(),

@@ -48,6 +48,15 @@ fn say_decimal(m: usize, s: usize)
     say_ratio(ratio.m, ratio.j);
 }
 
+// A pixel's light in decimal; a dash where it is black.
+pub(crate) fn say_brief(q: Rgbe) {
+    if light::is_black(q) {
+        say::text(b"-");
+        return;
+    }
+    say_decimal(light::mantissa(q), light::shift(q.e));
+}
+
 // A pixel's light, in decimal and as a mantissa times a power of two.
 pub(crate) fn say_light(label: &[u8], q: Rgbe) {
     say::text(label);

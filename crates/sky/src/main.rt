@@ -1,6 +1,7 @@
-// What a person asks of a sky file: its sizes and its light, or a copy that is written anew.
+// What a person asks of a sky file: its sizes, its light, a chart of it, or a copy that is written anew.
 mod anew;
 mod ask;
+mod brief;
 mod copy;
 mod file;
 mod fill;
@@ -13,6 +14,7 @@ mod outcome;
 mod pen;
 mod rows;
 mod say;
+mod stops;
 
 // What the program holds: a window of 2 MiB on the file, the widest row, and room for what is written.
 fn main() {

@@ -44,10 +44,15 @@ fn say_number(number: u8) {
     say::number(steps::wide(number));
 }
 
+// Whether a refusal names a row.
+fn names_row(number: u8) -> bool {
+    number == refusal::BYTES_END
+}
+
 // The number of a refusal, the row where it names one, and the sentence.
 fn say_refusal(r: Refusal) {
     say_number(r.number);
-    if r.number == refusal::BYTES_END {
+    if names_row(r.number) {
         say_row(b" in row ", r.place);
     }
     say::text(b": ");
@@ -112,5 +117,38 @@ pub(crate) fn is_whole(outcome: Outcome) -> bool {
     match outcome {
         Outcome::Whole(view) => true,
         _ => false,
+    }
+}
+
+// The number of a refusal and its row, for a table.
+fn say_brief_refusal(r: Refusal) {
+    say::number(steps::wide(r.number));
+    if names_row(r.number) {
+        say::tab(r.place);
+    } else {
+        say::text(b"\t-");
+    }
+}
+
+// The number and the row where a file was not read to its end; a dash for what there is not.
+pub(crate) fn say_brief(outcome: Outcome) {
+    match outcome {
+        Outcome::Refused(r) => say_brief_refusal(r),
+        Outcome::Returns { number } => {
+            if number == 0 {
+                say::text(b"-\t-");
+            } else {
+                say_brief_refusal(Refusal { number, place: 0 });
+            }
+        }
+        Outcome::TooLarge => say_brief_refusal(Refusal {
+            number: refusal::SIZE,
+            place: 0,
+        }),
+        Outcome::LongRow { row } => {
+            say::text(b"-");
+            say::tab(row);
+        }
+        _ => say::text(b"-\t-"),
     }
 }

@@ -41,6 +41,30 @@ pub(crate) fn field(label: &[u8], n: usize) {
     text(b"\n");
 }
 
+// The first n of some bytes.
+pub(crate) fn first(bytes: &[u8], n: usize)
+    requires { ⌜ n ≤ length (now bytes) ⌝ }
+{
+    front(STDOUT_FILENO, bytes, n);
+}
+
+// A tab and a number.
+pub(crate) fn tab(n: usize) {
+    text(b"\t");
+    number(n);
+}
+
+// A text on standard error.
+pub(crate) fn aside_text(bytes: &[u8]) {
+    io::write_all(STDERR_FILENO, bytes);
+}
+
+// A text and a number on standard error.
+pub(crate) fn aside(bytes: &[u8], n: usize) {
+    aside_text(bytes);
+    io::print_decimal(STDERR_FILENO, n as u64);
+}
+
 // The start of a line of progress.
 pub(crate) fn begin(shown: bool, name: &[u8]) {
     if shown {

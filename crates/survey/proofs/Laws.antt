@@ -1,3 +1,4 @@
 -- The laws of the definitions in `specs/`, a file for each of its files.
 pub mod Survey
 pub mod Repeat
+pub mod Stops

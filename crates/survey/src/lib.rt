@@ -1,5 +1,6 @@
 // What is asked of a row's four-byte pixels: how many are black, how many show light at another brightness than the document, and which are the darkest and the brightest.
 pub mod repeat;
+pub mod stops;
 
 use pixel::Rgbe;
 ghost use mathlib.Core.Path.{_≡_};
@@ -36,7 +37,7 @@ pub fn nothing() -> Totals
 }
 
 // The pixel of the four bytes from a place of the store on.
-fn pixel_at(store: &[u8], i: usize) -> Rgbe
+pub(crate) fn pixel_at(store: &[u8], i: usize) -> Rgbe
     requires { ⌜ i + 4 ≤ length (now store) ⌝ }
     ensures { λ r. ⌜ r ≡ rgbeAt (now (store .entry)) i ⌝ }
 {

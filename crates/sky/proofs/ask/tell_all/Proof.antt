@@ -5,31 +5,22 @@ use Rattle.sky.proofs.ask.tell_all.Statement.{statement}
 use Rattle.sky.proofs.ask.tell_all.Tie as tie
 
 abbrev Inv-loop : tie.InvT-loop
-Inv-loop bytes₀ store₀ count all₀ i₀ bytes store all i = Unit {0}
+Inv-loop form from bytes₀ store₀ count tally₀ i₀ bytes store tally i = Unit {0}
 
 abbrev μ-loop : tie.MeasureT-loop
-μ-loop bytes₀ store₀ count all₀ i₀ bytes store all i = count - i
+μ-loop form from bytes₀ store₀ count tally₀ i₀ bytes store tally i = count - i
 
 arg-count-requires : tie.Need-arg-count-requires Inv-loop μ-loop
 arg-count-requires c κs = search needs
-
-slice-aggregate-wrong : tie.Need-slice-aggregate-wrong Inv-loop μ-loop
-slice-aggregate-wrong c = search needs
-
-slice-aggregate-wrong-2 : tie.Need-slice-aggregate-wrong-2 Inv-loop μ-loop
-slice-aggregate-wrong-2 c = search needs
-
-wrong-requires : tie.Need-wrong-requires Inv-loop μ-loop
-wrong-requires c κs = search needs
-
-returns : tie.Need-returns Inv-loop μ-loop
-returns c = search needs
 
 loop-holds : tie.Need-loop-holds Inv-loop μ-loop
 loop-holds c = search needs
 
 tell-word-requires : tie.Need-tell-word-requires Inv-loop μ-loop
 tell-word-requires c κs = search needs
+
+with-file-requires : tie.Need-with-file-requires Inv-loop μ-loop
+with-file-requires c κs = search needs
 
 add-i : tie.Need-add-i Inv-loop μ-loop
 add-i c = search needs
@@ -40,8 +31,8 @@ loop-less c = search needs
 loop-again : tie.Need-loop-again Inv-loop μ-loop
 loop-again c = search needs
 
-returns-2 : tie.Need-returns-2 Inv-loop μ-loop
-returns-2 c = search needs
+returns : tie.Need-returns Inv-loop μ-loop
+returns c = search needs
 
 pub tell-all-spec : {M : Type 1} → statement M
 tell-all-spec =
@@ -50,13 +41,10 @@ tell-all-spec =
     Inv-loop
     μ-loop
     arg-count-requires
-    slice-aggregate-wrong
-    slice-aggregate-wrong-2
-    wrong-requires
-    returns
     loop-holds
     tell-word-requires
+    with-file-requires
     add-i
     loop-less
     loop-again
-    returns-2)
+    returns)

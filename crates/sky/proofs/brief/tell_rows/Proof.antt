@@ -1,0 +1,46 @@
+-- `sky::brief::tell_rows` is safe.
+use borrow.Author.Needs.{needs}
+use Rattle.sky.proofs.Laws.View.{ended-at, ended-end}
+use Rattle.sky.proofs.brief.tell_rows.Statement.{statement}
+use Rattle.sky.proofs.brief.tell_rows.Tie as tie
+
+mul-clear : tie.Need-mul-clear
+mul-clear c = search needs
+
+clear-requires : tie.Need-clear-requires
+clear-requires c κs = search needs
+
+read-rows-requires : tie.Need-read-rows-requires
+read-rows-requires c κs = search needs
+
+enum-known-outcome : tie.Need-enum-known-outcome
+enum-known-outcome c = search needs
+
+after-requires : tie.Need-after-requires
+after-requires c κs = (search ended-at, search ended-end)
+
+say-found-requires : tie.Need-say-found-requires
+say-found-requires c κs = search needs
+
+say-cut-requires : tie.Need-say-cut-requires
+say-cut-requires c κs = search needs
+
+returns : tie.Need-returns
+returns c = search needs
+
+returns-2 : tie.Need-returns-2
+returns-2 c = search needs
+
+pub tell-rows-spec : {M : Type 1} → statement M
+tell-rows-spec =
+    tie.close
+    (tie.spec
+    mul-clear
+    clear-requires
+    read-rows-requires
+    enum-known-outcome
+    after-requires
+    say-found-requires
+    say-cut-requires
+    returns
+    returns-2)

@@ -1,0 +1,50 @@
+-- `sky::stops::last` is safe and ends.
+use borrow.Author.Needs.{needs}
+use Prim.Native.Nat.{_<_}
+use Rattle.sky.proofs.stops.last.Statement.{statement}
+use Rattle.sky.proofs.stops.last.Tie as tie
+
+abbrev Inv-loop : tie.InvT-loop
+Inv-loop counts k₀ k = k < 264
+
+abbrev μ-loop : tie.MeasureT-loop
+μ-loop counts k₀ k = k
+
+loop-holds : tie.Need-loop-holds Inv-loop μ-loop
+loop-holds c = search needs
+
+mul-if1 : tie.Need-mul-if1 Inv-loop μ-loop
+mul-if1 c = search needs
+
+element-copy-out-if1 : tie.Need-element-copy-out-if1 Inv-loop μ-loop
+element-copy-out-if1 c = search needs
+
+returns : tie.Need-returns Inv-loop μ-loop
+returns c = search needs
+
+sub-k : tie.Need-sub-k Inv-loop μ-loop
+sub-k c = search needs
+
+loop-less : tie.Need-loop-less Inv-loop μ-loop
+loop-less c = search needs
+
+loop-again : tie.Need-loop-again Inv-loop μ-loop
+loop-again c = search needs
+
+returns-2 : tie.Need-returns-2 Inv-loop μ-loop
+returns-2 c = search needs
+
+pub last-spec : {M : Type 1} → statement M
+last-spec =
+    tie.close
+    (tie.spec
+    Inv-loop
+    μ-loop
+    loop-holds
+    mul-if1
+    element-copy-out-if1
+    returns
+    sub-k
+    loop-less
+    loop-again
+    returns-2)
