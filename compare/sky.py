@@ -199,6 +199,41 @@ def told(name, width, height, taken, after, survey):
     ]
 
 
+NAMES = ["status", "number", "row", "width", "height", "darkest pixel", "brightest pixel", "black pixels", "outside 97-159", "bytes after", "file"]
+
+
+def whole(lines):
+    """The line of `info --brief`, from the lines of `info`."""
+    found = {line[2:19].strip(): line[19:].split(" ")[0].replace("none,", "-") for line in lines[1:]}
+    return "\t".join(["whole", "-", "-"] + [found[name] for name in NAMES[3:-1]] + [lines[0]])
+
+
+def refused(name, number="-", row="-", width="-", height="-"):
+    """The line of `info --brief` for a file that is refused."""
+    return "\t".join(map(str, ["refused", number, row, width, height] + ["-"] * 5 + [name]))
+
+
+def stops(name, file, width, height, start):
+    """The lines of `stops` for a whole file: light as the Radiance document has it, (2m + 1) 2^(E - 137)."""
+    store, at, counts, black = bytearray(4 * width), start, {}, 0
+    for _ in range(height):
+        at = read_row(file, at, store, width)
+        for q in (store[i : i + 4] for i in range(0, 4 * width, 4)):
+            if max(q[:3]) == 0 or q[3] == 0:
+                black += 1
+            else:
+                power = (2 * max(q[:3]) + 1).bit_length() - 1 + q[3] - 137
+                counts[power] = counts.get(power, 0) + 1
+    lines = [name]
+    for power in range(min(counts), max(counts) + 1) if counts else ():
+        n = counts.get(power, 0)
+        bar = "#" * (n // (max(counts.values()) // 50 + 1) + 1) + " " if n else ""
+        lines.append("  2^%-5d%s %s%d" % (power, "|" if -32 <= power < 31 else " ", bar, n))
+    if not counts:
+        lines.append("  light            none, " + ("every pixel is black" if height else "there is no pixel"))
+    return lines + ["  black pixels     %d" % black]
+
+
 def answer(name, file, width, height, start):
     """The lines of `info` for a file whose header takes `start` bytes, read by document 01. A refusal's sentence is left open."""
     store, at, survey = bytearray(4 * width), start, Survey()
@@ -272,6 +307,16 @@ def pixels(rng, width, kind):
     return b"".join(bytes([rng.randrange(256), rng.randrange(256), rng.randrange(256), rng.randrange(90, 170)]) for _ in range(width))
 
 
+def least(times, *words):
+    """The least time of some runs."""
+    taken = []
+    for _ in range(times):
+        start = time.monotonic()
+        run(*words)
+        taken.append(time.monotonic() - start)
+    return min(taken)
+
+
 def large(kind):
     """4,096 by 2,048: 32 rows, each 64 times."""
     width, height, rng = 4096, 2048, random.Random(kind)
@@ -287,7 +332,10 @@ def large(kind):
     lines = told(kind + ".hdr", width, height, len(data), 0, survey)[:5]
     expect(kind + " copy", lines + ["  written to       copy.hdr", "  bytes written    %d" % len(data)], 0, "copy", kind + ".hdr", "copy.hdr", "--force")
     check(kind + " copied bytes", load("copy.hdr") == data)
-    print("  %s, %d bytes: info %.1f s, copy %.1f s" % (kind, len(data), middle - start, time.monotonic() - middle))
+    end = time.monotonic()
+    print("  %s, %d bytes: info %.1f s, copy %.1f s" % (kind, len(data), middle - start, end - middle))
+    if kind == "smooth":
+        check("info takes at most twice as long as copy", least(3, "info", kind + ".hdr") <= 2 * least(3, "copy", kind + ".hdr", "copy.hdr", "--force"))
     _, _, said = run("info", kind + ".hdr")
     check(kind + " progress", ("90% 100%\n" in said) == (len(data) > 4194304))
 
@@ -573,6 +621,35 @@ def built():
         os.chmod(folder, 0o755)
 
 
+def tables():
+    """One line to a file."""
+    keep("black.hdr", header(8, 1) + bytes(32))
+    want = ["\t".join(NAMES)]
+    want += [whole(answer(name, load(name), w, h, len(header(w, h)))) for name, w, h in (("small.hdr", 9, 2), ("wide.hdr", 40000, 3), ("black.hdr", 8, 1))]
+    want += [whole(answer("none.hdr", load("none.hdr"), 3, 0, 22)), refused("gone.hdr"), refused("axes", 2), refused("digits", 3), refused("returns", 1)]
+    want += [refused("returns-long"), refused("over", "-", 20, 8, 40), refused("torn.hdr", 9, 0, 9, 2)]
+    got, status, said = run("info", "--brief", *(line.split("\t")[-1] for line in want[1:]))
+    check("a table", got == want + [""] and status == 1)
+    check("how many", said == "sky: 4 whole, 7 refused\n")
+    if got != want + [""]:
+        print("\n".join("    %s\n    %s" % pair for pair in zip(got, want) if pair[0] != pair[1]))
+    got, status, said = run("info", "--brief", "small.hdr", "small.hdr")
+    check("a table of whole files", got == want[:2] + want[1:2] + [""] and status == 0 and said == "sky: 2 whole, 0 refused\n")
+    check("a table of nothing", run("info", "--brief")[1] == 1)
+
+
+def charts():
+    """How much light lies in each power of two."""
+    rng = random.Random(17)
+    every = b"".join(bytes([1 << rng.randrange(8), 0, rng.randrange(256), e]) for e in range(256)) + bytes([0, 0, 0, 200]) * 9
+    keep("every.hdr", header(265, 1) + write_row(every, 265))
+    for name, width, height in (("small.hdr", 9, 2), ("wide.hdr", 40000, 3), ("every.hdr", 265, 1), ("black.hdr", 8, 1)):
+        expect("stops " + name, stops(name, load(name), width, height, len(header(width, height))), 0, "stops", name)
+    expect("stops none.hdr", stops("none.hdr", load("none.hdr"), 3, 0, 22), 0, "stops", "none.hdr")
+    expect("stops torn.hdr", ["torn.hdr", "  refused          number 9 in row 0 (the first row is 0): *"], 1, "stops", "torn.hdr")
+    expect("stops of no file", ["sky: stops wants a file*"], 1, "stops")
+
+
 def main():
     copies()
     words()
@@ -590,6 +667,8 @@ def main():
     shown()
     asked()
     built()
+    tables()
+    charts()
     print("%d checked, %d differ" % (checked, len(failures)))
     sys.exit(1 if failures else 0)
 

@@ -58,7 +58,7 @@ fn help() -> bool {
         b"  ./sky stops FILE..           how many pixels have their light in each power of two, as a chart\n",
     );
     say::text(b"  ./sky copy IN OUT [--force]  the picture of IN, written anew to OUT\n");
-    say::text(b"  ./sky help                   this text; so do --help and -h\n");
+    say::text(b"  ./sky help                   this text, as --help and -h\n");
     say::text(b"  ./sky --version              the version, and the kit that proved it\n\n");
     help_more();
     true
@@ -71,7 +71,7 @@ fn help_more() {
     );
     say::text(b"light and have an exponent byte at which programs differ in brightness.\n");
     say::text(
-        b"The chart of 'stops' goes by the Radiance document, darkest first. A bar '|' marks light from\n",
+        b"The chart of 'stops' goes by the Radiance document, darkest first; '|' marks light from\n",
     );
     say::text(b"2^-32 to below 2^31, which zune-hdr, and so 'info', shows as it is.\n");
     say::text(

@@ -1,14 +1,15 @@
 -- The laws of `specs/Plain.antt`.
 use Prim.Native.Nat.{ℕ, zero, suc, _+_, _-_, _<_, _≤_}
-use mathlib.Core.Bool.{Bool, true, false}
+use mathlib.Core.Bool.{Bool, true, false, _&&_, _||_}
 use mathlib.Core.List.{List}
-use mathlib.Core.Path.{_≡_, sym, _∙_}
+use mathlib.Core.Path.{_≡_, refl, sym, _∙_}
 use native.Mathlib.Nat.{not-suc-le-zero}
 use native.Mathlib.Omega.{arith}
-use borrow.Author.Tests.{ne-eqb, lt-ltb, le-ltb}
-use lib.Dec.{ltb}
+use borrow.Author.Tests.{ne-eqb, lt-ltb, le-ltb, ltb-false}
+use lib.Dec.{ltb, eqb, lit≤}
 use lib.ListN.{getD, set}
 use Rattle.steps.specs.Place.{spread}
+use Rattle.steps.proofs.Laws.Turns.{by-test}
 use Rattle.plain.specs.Plain.{acts, shown, plainFrom}
 
 module _ (before x : ℕ) where
@@ -48,3 +49,23 @@ pub plain-end : (name out w : List ℕ) (before i n : ℕ) → spread 1 out i (p
 unfolding spread plainFrom
 plain-end name out w before i zero e h = e
 plain-end name out w before i (suc n) e h = absurd (not-suc-le-zero h)
+
+-- ---- No control character is shown
+
+or-left : (a b : Bool) → (a || b) ≡ false → a ≡ false
+or-left true b e = e
+or-left false b e = refl
+
+shown-clean : (before x : ℕ) → 32 ≤ shown before x
+unfolding shown acts
+shown-clean before x =
+    by-test (λ (y : ℕ). 32 ≤ y) (ltb x 32 || (eqb x 127 || (eqb before 194 && ltb x 160)))
+    (λ t. lit≤ {m = 32} {n = 63} tt)
+    (λ t. ltb-false x 32 (or-left (ltb x 32) (eqb x 127 || (eqb before 194 && ltb x 160)) t))
+
+-- neither a line's end nor a tab stands in a name as it is shown
+pub plain-clean : (name : List ℕ) (before i n k : ℕ) → k < n → 32 ≤ getD (plainFrom name before i n) k 0
+unfolding plainFrom
+plain-clean name before i zero k h = absurd (not-suc-le-zero h)
+plain-clean name before i (suc n) zero h = shown-clean before (getD name i 0)
+plain-clean name before i (suc n) (suc k) h = plain-clean name (getD name i 0) (i + 1) n k (omega arith)

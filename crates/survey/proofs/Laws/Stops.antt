@@ -1,12 +1,17 @@
 -- The laws of `specs/Stops.antt`.
 use Prim.Native.Nat.{ℕ, zero, suc, _+_, _-_, _*_, _%_, _^_, _<_, _≤_, max}
-use mathlib.Core.Bool.{Bool, true, false}
+use mathlib.Core.Bool.{Bool, true, false, _&&_}
+use mathlib.Core.Logic.{⊎-elim}
 use mathlib.Core.List.{List}
-use mathlib.Core.Path.{_≡_, sym, _∙_}
-use native.Mathlib.Nat.{not-suc-le-zero}
+use mathlib.Core.Path.{_≡_, refl, sym, ap, _∙_}
+use native.Mathlib.Nat.{not-suc-le-zero, mul-le-mul-right, mul-lt-mul-of-pos-right}
 use native.Mathlib.Omega.{arith}
-use borrow.Author.Tests.{lt-ltb, le-ltb}
+use borrow.Author.Tests.{lt-ltb, le-ltb, ltb-true, leb-true}
+use lib.Dec.{ltb, leb}
 use lib.ListN.{getD, set}
+use lib.Pow.{pow-pos}
+use Rattle.steps.proofs.Laws.Turns.{and-left, and-right}
+use Rattle.pixel.proofs.Laws.Numbers.{either, pow-pow}
 use Rattle.pixel.specs.declared.Rgbe.{Rgbe}
 use Rattle.reader.specs.Samples.{rgbeAt}
 use Rattle.light.specs.Light.{isBlack}
@@ -43,3 +48,37 @@ pub stops-end : (store counts w : List ℕ) (i n : ℕ) → stopsOf store i n co
 unfolding stopsOf
 stops-end store counts w i zero e h = e
 stops-end store counts w i (suc n) e h = absurd (not-suc-le-zero h)
+
+-- ---- A stop is a power of two of the document's light
+
+-- 2m + 1 has one binary digit more than m
+abbrev fits : ℕ → Bool
+fits m = leb (2 ^ digits m) (2 * m + 1) && ltb (2 * m + 1) (2 ^ (digits m + 1))
+
+all : ℕ → Bool
+all zero = true
+all (suc n) = fits n && all n
+
+all-fit : all 256 ≡ true
+unfolding all digits
+all-fit = refl
+
+fit-of : (n m : ℕ) → all n ≡ true → m < n → fits m ≡ true
+unfolding all
+fit-of zero m e h = absurd (not-suc-le-zero h)
+fit-of (suc n) m e h = ⊎-elim (λ (less : m < n). fit-of n m (and-right (fits n) (all n) e) less) (λ (not-less : n ≤ m). here (omega arith)) (either m n)
+  where
+    here : m ≡ n → fits m ≡ true
+    here z = rw z (and-left (fits n) (all n) e)
+
+-- light that is shown lies in the power of two of its stop: 2^137 times it is (2m + 1) 2^E
+pub stop-power : (q : Rgbe) (m : ℕ) → isBlack q ≡ false → m ≡ max (max (q .r) (q .g)) (q .b) → m < 256
+    → (2 ^ stopOf q ≤ (2 * m + 1) * 2 ^ q .e) × ((2 * m + 1) * 2 ^ q .e < 2 ^ (stopOf q + 1))
+stop-power q m t em h =
+    let f = fit-of 256 m all-fit h in
+    let low : 2 ^ digits m ≤ 2 * m + 1 = leb-true (2 ^ digits m) (2 * m + 1) (and-left (leb (2 ^ digits m) (2 * m + 1)) (ltb (2 * m + 1) (2 ^ (digits m + 1))) f) in
+    let high : 2 * m + 1 < 2 ^ (digits m + 1) = ltb-true (2 * m + 1) (2 ^ (digits m + 1)) (and-right (leb (2 ^ digits m) (2 * m + 1)) (ltb (2 * m + 1) (2 ^ (digits m + 1))) f) in
+    let stop : q .e + digits m ≡ stopOf q = stop-light q (isBlack q) refl (max (q .r) (q .g)) m (digits m) (q .e) t refl refl em refl in
+    let one : digits m + q .e ≡ stopOf q = omega arith in
+    let two : digits m + 1 + q .e ≡ stopOf q + 1 = omega arith in
+    (rw (← pow-pow (digits m) (q .e) (stopOf q) one) (mul-le-mul-right (2 ^ q .e) low), rw (← pow-pow (digits m + 1) (q .e) (stopOf q + 1) two) (mul-lt-mul-of-pos-right high (pow-pos (q .e))))
