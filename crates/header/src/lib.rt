@@ -9,6 +9,7 @@ use words::lines;
 use words::sizes;
 use words::sizes::Size;
 pub use written::length;
+pub use written::put_digits;
 pub use written::write;
 ghost use mathlib.Core.Path.{_≡_};
 ghost use Prim.Native.Nat.{_≤_};

@@ -16,7 +16,7 @@ fn digit_count(n: usize) -> usize
 }
 
 // Stores the digits of a number from `at` on, and answers the place after them.
-fn put_digits(out: &mut [u8], at: usize, n: usize) -> usize
+pub fn put_digits(out: &mut [u8], at: usize, n: usize) -> usize
     requires { ⌜ at + length (digits n) ≤ length (now out) ⌝ }
     ensures { λ r. ⌜ (r ≡ at + length (digits n)) × (now (out .exit) ≡ spread 1 (now (out .entry)) at (digits n)) ⌝ }
 {

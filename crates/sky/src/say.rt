@@ -50,8 +50,9 @@ pub(crate) fn first(bytes: &[u8], n: usize)
 
 // A tab and a number.
 pub(crate) fn tab(n: usize) {
-    text(b"\t");
-    number(n);
+    let mut field = [0u8; 21];
+    let k = table::put_field(&mut field, 0, n);
+    first(&field, k);
 }
 
 // A text on standard error.

@@ -1,0 +1,2 @@
+-- A field of a table that is a number.
+pub mod Table
