@@ -541,6 +541,12 @@ def stopped():
     check("a later copy", status == 0 and load("stop.hdr") == load("noisy.hdr"))
     for name in parts():
         os.remove(name)
+    for name, make, force in (("sudden.hdr", lambda path: keep(path, b"theirs"), ()), ("pipe.hdr", lambda path: os.mkfifo(os.path.join(FOLDER, path)), ("--force",))):
+        started = begin("copy", "noisy.hdr", name, *force)
+        make(name)
+        said = started.communicate()[0].decode()
+        check("what appears meanwhile is kept: " + name, started.returncode == 1 and "  refused          %s is " % name in said and not parts())
+    check("it is as it was made", load("sudden.hdr") == b"theirs" and stat.S_ISFIFO(os.stat(os.path.join(FOLDER, "pipe.hdr")).st_mode))
     two = [subprocess.Popen([SKY, "copy", "noisy.hdr", "once.hdr"], cwd=FOLDER, stdout=subprocess.PIPE, stderr=subprocess.PIPE) for _ in range(2)]
     check("one of two copies", sorted((one.communicate(), one.returncode)[1] for one in two) == [0, 1] and load("once.hdr") == load("noisy.hdr") and not parts())
 
