@@ -6,7 +6,7 @@ use crate::outcome::Outcome;
 use crate::say;
 use header::Head;
 use survey::Totals;
-ghost use Prim.Native.Nat.{_+_, _*_, _≤_};
+ghost use Prim.Native.Nat.{_+_, _≤_};
 ghost use Rattle.sky.specs.View.{Held, Ended};
 
 // What the rows say, and how they end.

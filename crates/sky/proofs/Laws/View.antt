@@ -1,5 +1,5 @@
 -- What an answer says of the window, case by case, and the totals before the first row.
-use Prim.Native.Nat.{ℕ, _*_, _≤_}
+use Prim.Native.Nat.{ℕ, _≤_}
 use mathlib.Core.Path.{_≡_, subst}
 use native.Mathlib.Omega.{arith}
 use Rattle.survey.specs.Survey.{none}

@@ -3,7 +3,7 @@ use Prim.Native.Nat.{ℕ, zero, suc, _+_, _-_, _*_, _%_, _^_, _<_, _≤_, max}
 use mathlib.Core.Bool.{Bool, true, false, _&&_}
 use mathlib.Core.Logic.{⊎-elim}
 use mathlib.Core.List.{List}
-use mathlib.Core.Path.{_≡_, refl, sym, ap, _∙_}
+use mathlib.Core.Path.{_≡_, refl, sym, _∙_}
 use native.Mathlib.Nat.{not-suc-le-zero, mul-le-mul-right, mul-lt-mul-of-pos-right}
 use native.Mathlib.Omega.{arith}
 use borrow.Author.Tests.{lt-ltb, le-ltb, ltb-true, leb-true}
@@ -15,7 +15,7 @@ use Rattle.pixel.proofs.Laws.Numbers.{either, pow-pow}
 use Rattle.pixel.specs.declared.Rgbe.{Rgbe}
 use Rattle.reader.specs.Samples.{rgbeAt}
 use Rattle.light.specs.Light.{isBlack}
-use Rattle.survey.specs.Stops.{reached, digits, stopOf, oneMore, stopsOf}
+use Rattle.survey.specs.Stops.{reached, digits, stopOf, stopsOf}
 
 pub reached-not : (m p : ℕ) → m < p → 0 ≡ reached m p
 reached-not m p h = simp (lt-ltb m p h)
