@@ -25,11 +25,11 @@ enum-known-answer c = search needs
 moved-to-requires : tie.Need-moved-to-requires
 moved-to-requires c κs = search needs
 
+enum-known-answer-2 : tie.Need-enum-known-answer-2
+enum-known-answer-2 c = search needs
+
 enum-told : tie.Need-enum-told
 enum-told c = search needs
-
-enum-told-2 : tie.Need-enum-told-2
-enum-told-2 c = search needs
 
 returns-2 : tie.Need-returns-2
 returns-2 c = (search row-next, search needs)
@@ -51,8 +51,8 @@ next-row-spec =
     row-in-requires
     enum-known-answer
     moved-to-requires
+    enum-known-answer-2
     enum-told
-    enum-told-2
     returns-2
     returns-3
     returns-4)
