@@ -1,12 +1,12 @@
 -- Byte strings and lists of samples in hexadecimal; the empty one is `-`.
-use Prim.Native.Nat.{ℕ, _*_, _/_, _%_, _≤_, _<_}
+use Prim.Native.Nat.{ℕ, zero, suc, _/_, _%_}
 use mathlib.Core.Bool.{Bool, false, not, _||_}
 use mathlib.Core.List.{List, [], _∷_}
-use mathlib.Core.Path.{_≡_}
-use lib.ListN.{length, getD, take, drop}
-use lib.Dec.{eqb}
-use lib.Ieee.{Float, nan, binary32, ofBits}
+use lib.ListN.{length, take, drop}
+use lib.Dec.{eqb, ltb}
+use lib.Ieee.{Float, binary32, ofBits}
 use Rattle.steps.specs.Loop.{pick}
+use Rattle.steps.specs.Place.{spread}
 use Rattle.fields.specs.Numerals.{numeralFrom}
 use Rattle.fields.specs.declared.text.Number.{Number}
 use Rattle.fields.specs.declared.text.Number.the-variants.{Is, Missing}
@@ -23,23 +23,31 @@ countOf digits field =
     pick (isDash field) (Is 0)
     (pick (eqb (length field) 0 || not (eqb (length field % digits) 0)) Missing (Is (length field / digits)))
 
--- what the k-th value's digits stand for
-abbrev pub valueAt : ℕ → List ℕ → ℕ → Number
-valueAt digits field k = numeralFrom 16 0 (take digits (drop (digits * k) field))
+-- a value that digits stand for, and those after it; none where the digits are none
+abbrev pub firstThen : {A : Type 0} → (ℕ → A) → Number → List A → List A
+firstThen value (Is b) rest = value b ∷ rest
+firstThen value Missing rest = []
 
--- an answer of n bytes: they fit, and are those that the field writes
-abbrev pub BytesRead : List ℕ → List ℕ → Number → Type 0
-BytesRead field bytes (Is n) =
-    (n ≤ length bytes) × (countOf 2 field ≡ Is n) × ((k : ℕ) → k < n → valueAt 2 field k ≡ Is (getD bytes k 0))
-BytesRead field bytes Missing = Unit {0}
+-- n values, so many digits to a value, up to the first whose digits are none; `value` says what a number stands for
+unfoldable pub valuesOf : {A : Type 0} → (ℕ → A) → ℕ → ℕ → List ℕ → List A
+valuesOf value digits zero field = []
+valuesOf value digits (suc n) field = firstThen value (numeralFrom 16 0 (take digits field)) (valuesOf value digits n (drop digits field))
 
--- a sample that was read from such digits: that of their bit pattern, and no number where it is no number's
-abbrev pub SampleIs : Number → Float → Type 0
-SampleIs (Is b) x = x ≡ ofBits binary32 b
-SampleIs Missing x = ⊥
+-- n values are asked for, and these are they up to the first that is none: if n fit, they are stored, and n is the answer where none is missing
+unfoldable pub stored : {A : Type 0} → ℕ → List A → List A → Number × List A
+stored n values lent =
+    pick (ltb (length lent) n) (Missing, lent)
+    (pick (eqb (length values) n) (Is n) Missing, spread 1 lent 0 values)
 
--- an answer of n samples: they fit, and are those that the field writes
-abbrev pub SamplesRead : List ℕ → List Float → Number → Type 0
-SamplesRead field samples (Is n) =
-    (n ≤ length samples) × (countOf 8 field ≡ Is n) × ((k : ℕ) → k < n → SampleIs (valueAt 8 field k) (getD samples k nan))
-SamplesRead field samples Missing = Unit {0}
+-- a field is read to the start of a lent list: the answer, and the list afterwards
+abbrev pub readBy : {A : Type 0} → (ℕ → A) → ℕ → List ℕ → List A → Number → Number × List A
+readBy value digits field lent (Is n) = stored n (valuesOf value digits n field) lent
+readBy value digits field lent Missing = (Missing, lent)
+
+-- two digits to a byte
+abbrev pub bytesRead : List ℕ → List ℕ → Number × List ℕ
+bytesRead field bytes = readBy (λ b. b) 2 field bytes (countOf 2 field)
+
+-- eight digits to a sample's bit pattern; one that is no number's stands for no number
+abbrev pub samplesRead : List ℕ → List Float → Number × List Float
+samplesRead field samples = readBy (ofBits binary32) 8 field samples (countOf 8 field)

@@ -5,7 +5,7 @@ ghost use mathlib.Core.Path.{_≡_};
 ghost use Prim.Native.Nat.{_<_};
 ghost use lib.Ieee.{binary32, ofBits};
 ghost use lib.ListN.{drop};
-ghost use Rattle.hex.specs.Hex.{isDash, countOf, BytesRead, SamplesRead};
+ghost use Rattle.hex.specs.Hex.{isDash, countOf, bytesRead, samplesRead};
 
 // Whether a field is `-`, which writes no value.
 fn is_dash(field: &[u8]) -> bool
@@ -36,7 +36,7 @@ fn count(field: &[u8], digits: usize) -> Number
 
 // The bytes that a field writes, to the start of `bytes`; how many they are.
 fn bytes_of(field: &[u8], bytes: &mut [u8]) -> Number
-    ensures { λ r. ⌜ BytesRead (now (field .entry)) (now (bytes .exit)) r ⌝ }
+    ensures { λ r. ⌜ (r, now (bytes .exit)) ≡ bytesRead (now (field .entry)) (now (bytes .entry)) ⌝ }
 {
     let Number::Is(n) = count(field, 2) else {
         return Number::Missing;
@@ -72,7 +72,7 @@ fn sample_of(bits: u32) -> f32
 
 // The samples that a field writes, to the start of `samples`; how many they are.
 fn samples_of(field: &[u8], samples: &mut [f32]) -> Number
-    ensures { λ r. ⌜ SamplesRead (now (field .entry)) (now (samples .exit)) r ⌝ }
+    ensures { λ r. ⌜ (r, now (samples .exit)) ≡ samplesRead (now (field .entry)) (now (samples .entry)) ⌝ }
 {
     let Number::Is(n) = count(field, 8) else {
         return Number::Missing;
@@ -98,7 +98,7 @@ fn samples_of(field: &[u8], samples: &mut [f32]) -> Number
 
 // The bytes that the line from `at` on writes.
 pub fn bytes_at(line: &[u8], at: usize, bytes: &mut [u8]) -> Number
-    ensures { λ r. ⌜ BytesRead (drop at (now (line .entry))) (now (bytes .exit)) r ⌝ }
+    ensures { λ r. ⌜ (r, now (bytes .exit)) ≡ bytesRead (drop at (now (line .entry))) (now (bytes .entry)) ⌝ }
 {
     if line.len() < at {
         return Number::Missing;
@@ -108,7 +108,7 @@ pub fn bytes_at(line: &[u8], at: usize, bytes: &mut [u8]) -> Number
 
 // The samples that the line from `at` on writes.
 pub fn samples_at(line: &[u8], at: usize, samples: &mut [f32]) -> Number
-    ensures { λ r. ⌜ SamplesRead (drop at (now (line .entry))) (now (samples .exit)) r ⌝ }
+    ensures { λ r. ⌜ (r, now (samples .exit)) ≡ samplesRead (drop at (now (line .entry))) (now (samples .entry)) ⌝ }
 {
     if line.len() < at {
         return Number::Missing;

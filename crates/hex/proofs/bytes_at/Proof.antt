@@ -1,11 +1,11 @@
 -- `hex::bytes_at` meets its contract: the rest of the line is the field.
 use borrow.Author.Needs.{needs}
-use Rattle.hex.proofs.Laws.Hex.{bytes-tail}
+use Rattle.hex.proofs.Laws.Hex.{bytes-past, bytes-tail}
 use Rattle.hex.proofs.bytes_at.Statement.{statement}
 use Rattle.hex.proofs.bytes_at.Tie as tie
 
 returns : tie.Need-returns
-returns c = search needs
+returns c = search bytes-past
 
 sub-bytes-of : tie.Need-sub-bytes-of
 sub-bytes-of c = search needs

@@ -1,11 +1,11 @@
 -- `hex::samples_at` meets its contract: the rest of the line is the field.
 use borrow.Author.Needs.{needs}
-use Rattle.hex.proofs.Laws.Hex.{samples-tail}
+use Rattle.hex.proofs.Laws.Hex.{samples-past, samples-tail}
 use Rattle.hex.proofs.samples_at.Statement.{statement}
 use Rattle.hex.proofs.samples_at.Tie as tie
 
 returns : tie.Need-returns
-returns c = search needs
+returns c = search samples-past
 
 sub-samples-of : tie.Need-sub-samples-of
 sub-samples-of c = search needs

@@ -1,19 +1,16 @@
--- `hex::samples_of` meets its contract. The invariant: each value passed is that of its digits.
+-- `hex::samples_of` meets its contract. The invariant: what is left to read, stored, gives what was to be stored.
 use borrow.Author.Needs.{needs}
-use Prim.Native.Nat.{ℕ, _*_, _-_, _≤_, _<_}
+use Prim.Native.Nat.{_*_, _-_, _≤_}
 use mathlib.Core.Path.{_≡_}
 use native.Mathlib.Omega.{arith}
-use borrow.Author.Count.{below-none}
-use lib.ListN.{length, length-set, getD}
-use lib.Ieee.{nan}
-use Rattle.hex.specs.Hex.{countOf, valueAt, SampleIs}
-use Rattle.fields.specs.declared.text.Number.the-variants.{Is}
-use Rattle.hex.proofs.Laws.Hex.{count-is, count-room, pattern-small, samples-more}
+use lib.ListN.{length, length-set}
+use lib.Ieee.{binary32, ofBits}
+use Rattle.hex.proofs.Laws.Hex.{count-room, pattern-small, read-uncounted, read-short, read-counted, Reads, reads-first, reads-more, reads-none, reads-all}
 use Rattle.hex.proofs.samples_of.Statement.{statement}
 use Rattle.hex.proofs.samples_of.Tie as tie
 
 abbrev Inv-loop : tie.InvT-loop
-Inv-loop field samples₀ n k₀ samples k = (k ≤ n) × (length samples ≡ length samples₀) × (n ≤ length samples₀) × (8 * n ≤ length field) × (countOf 8 field ≡ Is n) × ((i : ℕ) → i < k → SampleIs (valueAt 8 field i) (getD samples i nan))
+Inv-loop field samples₀ n k₀ samples k = (k ≤ n) × (length samples ≡ length samples₀) × (n ≤ length samples₀) × (8 * n ≤ length field) × Reads (ofBits binary32) 8 field n samples₀ k samples
 
 abbrev μ-loop : tie.MeasureT-loop
 μ-loop field samples₀ n k₀ samples k = n - k
@@ -28,13 +25,13 @@ enum-told : tie.Need-enum-told Inv-loop μ-loop
 enum-told c = search needs
 
 returns : tie.Need-returns Inv-loop μ-loop
-returns c = tt
+returns c = search read-uncounted
 
 returns-2 : tie.Need-returns-2 Inv-loop μ-loop
-returns-2 c = tt
+returns-2 c = search read-short
 
 loop-holds : tie.Need-loop-holds Inv-loop μ-loop
-loop-holds c = (search needs, search needs, search needs, search count-room, search count-is, below-none _)
+loop-holds c = (search needs, search needs, search needs, search count-room, reads-first _ _ _ _ _)
 
 mul-numeral : tie.Need-mul-numeral Inv-loop μ-loop
 mul-numeral c = search needs
@@ -79,7 +76,7 @@ same-length : tie.Need-same-length Inv-loop μ-loop
 same-length c = search needs
 
 returns-3 : tie.Need-returns-3 Inv-loop μ-loop
-returns-3 c = tt
+returns-3 c = search (reads-none, read-counted)
 
 add-k : tie.Need-add-k Inv-loop μ-loop
 add-k c = search needs
@@ -88,13 +85,15 @@ loop-less : tie.Need-loop-less Inv-loop μ-loop
 loop-less c = search needs
 
 loop-again : tie.Need-loop-again Inv-loop μ-loop
-loop-again c = (search needs, simp length-set (search needs), search needs, search needs, search needs, search samples-more)
+loop-again c =
+    let t = c .before .before .before .before in
+    (search needs, simp length-set (search needs), search needs, search needs, reads-more (ofBits binary32) 8 _ _ _ _ _ (search needs) (t .before .before .before .loop .inv .4) _ (t .numeral .ensures) _ _ (c .before .before .value .given .1) (c .sample-of .ensures))
 
 same-length-2 : tie.Need-same-length-2 Inv-loop μ-loop
 same-length-2 c = search needs
 
 returns-4 : tie.Need-returns-4 Inv-loop μ-loop
-returns-4 c = let inv = c .before .loop .inv in (omega arith, inv .4, λ i l. inv .5 i (omega arith))
+returns-4 c = search (reads-all, read-counted)
 
 pub samples-of-spec : {M : Type 1} → statement M
 samples-of-spec =
