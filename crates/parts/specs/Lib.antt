@@ -1,3 +1,3 @@
--- What the contracts of this crate cite: a channel as it is written, and the parts that it is scanned in.
+-- What a reader has to believe of a channel as it is written.
 pub mod Channel
-pub mod Part
+pub mod Inner

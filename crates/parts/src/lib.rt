@@ -4,7 +4,7 @@ ghost use mathlib.Core.Bool.{true};
 ghost use Prim.Native.Nat.{_+_, _*_, _<_, _≤_};
 ghost use lib.ListN.{length};
 ghost use Rattle.parts.specs.Channel.{channel};
-ghost use Rattle.parts.specs.Part.{Four, FourEqual, Equal, Skip, Gathers, Stops, Share, Front, Parted, oneRun};
+ghost use Rattle.parts.specs.Inner.{Four, FourEqual, Equal, Skip, Gathers, Stops, Front, Parted, oneRun, partOf, firstPart};
 
 // How the front of a channel is written: so many literals, a short run, and a long run of so many bytes.
 pub struct Part {
@@ -116,7 +116,7 @@ fn is_one_run(px: &[u8], at: usize, h: usize) -> bool
 // The part whose h bytes gather, and whose long run has `long`.
 fn part_of(px: &[u8], at: usize, h: usize, long: usize) -> Part
     requires { ⌜ at + 4 * h < length (now px) + 4 ⌝ }
-    ensures { λ r. ⌜ Share (channel (now (px .entry)) at h) h (r .literals) (r .short) × (r .long ≡ long) ⌝ }
+    ensures { λ r. ⌜ r ≡ partOf (channel (now (px .entry)) at h) long ⌝ }
 {
     if is_one_run(px, at, h) {
         return Part {
@@ -135,6 +135,7 @@ fn part_of(px: &[u8], at: usize, h: usize, long: usize) -> Part
 // The part of a channel up to its first run of 4 or more, and that run.
 pub fn part_at(px: &[u8], at: usize, left: usize) -> Part
     requires { ⌜ (0 < left) × (at + 4 * left < length (now px) + 4) ⌝ }
+    ensures { λ r. ⌜ r ≡ firstPart (channel (now (px .entry)) at left) ⌝ }
     ensures { λ r. ⌜ Parted left (channel (now (px .entry)) at left) (r .literals) (r .short) (r .long) ⌝ }
 {
     let h = gathered(px, at, left);

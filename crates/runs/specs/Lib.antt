@@ -1,2 +1,3 @@
--- What the contracts of this crate cite: a row as it is written.
+-- What a reader has to believe of a row as it is written.
 pub mod Row
+pub mod Inner

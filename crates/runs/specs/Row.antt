@@ -1,12 +1,10 @@
--- One row as it is written, where it is stored, and the worst row, by document 01, "Rows written". A pixel is four bytes of px.
+-- One row as it is written, and the worst row, by document 01, "Rows written". A pixel is four bytes of px.
 use Prim.Native.Nat.{ℕ, _+_, _*_, _/_, _%_}
-use mathlib.Core.Path.{_≡_}
 use mathlib.Core.Bool.{Bool, _&&_}
 use mathlib.Core.List.{List, [], _∷_, _++_}
-use lib.ListN.{length}
 use lib.Dec.{leb}
 use Rattle.steps.specs.Loop.{pick}
-use Rattle.steps.specs.Place.{bytesFrom, spread}
+use Rattle.steps.specs.Place.{bytesFrom}
 use Rattle.parts.specs.Channel.{code, channel}
 
 -- "Widths 8 to 32,767"
@@ -26,10 +24,6 @@ codedRow px at w =
 -- a row of w pixels, the first at place at; "Other widths are written flat."
 unfoldable pub rowOf : List ℕ → ℕ → ℕ → List ℕ
 rowOf px at w = pick (isCoded w) (codedRow px at w) (bytesFrom px at (4 * w))
-
--- the bytes l stand in `after` from place to on, and next is the place after them; the rest is as it was in `before`
-abbrev pub Stored : List ℕ → ℕ → List ℕ → ℕ → List ℕ → Type 0
-Stored before to l next after = (next ≡ to + length l) × (after ≡ spread 1 before to l)
 
 -- n bytes and a count for each 128 of them: the most that a channel of n bytes takes
 abbrev pub worstChannel : ℕ → ℕ

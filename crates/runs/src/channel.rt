@@ -4,8 +4,8 @@ ghost use Prim.Native.Nat.{ℕ, _+_, _*_, _<_, _≤_};
 ghost use lib.ListN.{length, getD};
 ghost use Rattle.steps.specs.Place.{spread};
 ghost use Rattle.parts.specs.Channel.{literals, code, channel};
-ghost use Rattle.parts.specs.Part.{runOf};
-ghost use Rattle.runs.specs.Row.{Stored};
+ghost use Rattle.parts.specs.Inner.{runOf};
+ghost use Rattle.runs.specs.Inner.{Stored};
 
 // How many bytes a run of n takes: none where n is 0.
 fn run_length(n: usize) -> usize

@@ -5,7 +5,8 @@ ghost use mathlib.Core.Path.{_≡_};
 ghost use Prim.Native.Nat.{_+_, _*_, _<_, _≤_};
 ghost use lib.ListN.{length};
 ghost use Rattle.steps.specs.Place.{spread};
-ghost use Rattle.runs.specs.Row.{isCoded, mark, codedRow, rowOf, Stored};
+ghost use Rattle.runs.specs.Row.{isCoded, mark, codedRow, rowOf};
+ghost use Rattle.runs.specs.Inner.{Stored};
 
 // Whether rows of w pixels are coded.
 pub fn is_coded(w: usize) -> bool

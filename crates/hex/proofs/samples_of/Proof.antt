@@ -2,7 +2,6 @@
 use borrow.Author.Needs.{needs}
 use Prim.Native.Nat.{_*_, _-_, _≤_}
 use mathlib.Core.Path.{_≡_}
-use native.Mathlib.Omega.{arith}
 use lib.ListN.{length, length-set}
 use lib.Ieee.{binary32, ofBits}
 use Rattle.hex.proofs.Laws.Hex.{count-room, pattern-small, read-uncounted, read-short, read-counted, Reads, reads-first, reads-more, reads-none, reads-all}

@@ -70,8 +70,3 @@ unfolding grow
 grow-some v n [] = omega arith
 grow-some v n (x ∷ xs) =
     ⊎-elim (λ s. omega (arith, ap length (s .1 xs), grow-some v (suc n) xs)) (λ e. omega (arith, ap length (e xs))) (grow-step v n x)
-
-pub cut-few : (xs : List ℕ) → length xs ≤ 3 → length xs ≤ 3 * length (cut xs)
-unfolding cut
-cut-few [] h = omega arith
-cut-few (x ∷ xs) h = omega (arith, grow-some x 1 xs)

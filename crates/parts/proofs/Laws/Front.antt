@@ -9,7 +9,7 @@ use borrow.Author.Count.{below-more}
 use lib.ListN.{length, getD, drop, drop-of-length-le}
 use lib.Seq.{drop-cons}
 use Rattle.parts.specs.Channel.{run, grow, cut, channel}
-use Rattle.parts.specs.Part.{Four, FourEqual, Equal}
+use Rattle.parts.specs.Inner.{Four, FourEqual, Equal}
 use Rattle.parts.proofs.Laws.Channel.{grow-same, grow-other, grow-full}
 use Rattle.parts.proofs.Laws.Cut.{lt-or-ge}
 use Rattle.parts.proofs.Laws.Places.{length-channel, getD-channel}

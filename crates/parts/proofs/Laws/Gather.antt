@@ -4,32 +4,52 @@ use mathlib.Core.List.{List, [], _∷_, _++_, append-assoc, append-nil}
 use Prim.Native.Nat.{ℕ, _+_, _-_, _*_, _≤_, _<_}
 use native.Mathlib.Omega.{arith}
 use lib.ListN.{length, getD, take, drop, replicate, length-append, length-replicate, length-drop}
-use lib.Seq.{length-take-le, getD-take, getD-drop, take-take, take-add, drop-at, drop-drop}
+use lib.Seq.{length-take-le, getD-take, take-take, take-add, drop-at}
 use Rattle.parts.specs.Channel.{Run, run, cut, bytes, gather, code, channel}
-use Rattle.parts.specs.Part.{Skip, Gathers}
+use Rattle.parts.specs.Inner.{Skip, Short, Gathers}
 use Rattle.parts.proofs.Laws.Channel.{bytes-cut, gather-short}
-use Rattle.parts.proofs.Laws.Cut.{Border, cut-border, cut-few}
+use Rattle.parts.proofs.Laws.Cut.{Border, cut-border}
 use Rattle.parts.proofs.Laws.Places.{length-channel, getD-channel}
 
--- runs that have 3 bytes together all gather
-gather-runs : (g few rs : List Run) → length (bytes few) ≤ 3 → gather g (few ++ rs) ≡ gather (g ++ few) rs
+-- short runs all gather
+gather-runs : (g few rs : List Run) → Short few → gather g (few ++ rs) ≡ gather (g ++ few) rs
 gather-runs g [] rs h = ap (λ (l : List Run). gather l rs) (sym (append-nil g))
 gather-runs g (run v n ∷ few) rs h =
-    let size = length-append (replicate n v) (bytes few) in
-    let many = length-replicate n v in
-    gather-short g v n (few ++ rs) (omega arith)
-    ∙ gather-runs (g ++ run v n ∷ []) few rs (omega arith)
+    gather-short g v n (few ++ rs) (h .0)
+    ∙ gather-runs (g ++ run v n ∷ []) few rs (h .1)
     ∙ ap (λ (l : List Run). gather l rs) (append-assoc g (run v n ∷ []) few)
 
+-- what gathers, and then the rest
+pub gathers-code : (xs : List ℕ) (h : ℕ) → Gathers xs h → code xs ≡ gather (cut (take h xs)) (cut (drop h xs))
+unfolding code
+gathers-code xs h G = ap (gather []) (G .border) ∙ gather-runs [] (cut (take h xs)) (cut (drop h xs)) (G .short)
+
+-- runs that have 3 bytes together are short
+short-few : (rs : List Run) → length (bytes rs) ≤ 3 → Short rs
+short-few [] h = tt
+short-few (run v n ∷ rs) h =
+    let size = length-append (replicate n v) (bytes rs) in
+    let many = length-replicate n v in
+    (omega arith, short-few rs (omega arith))
+
+short-append : (g rs : List Run) → Short g → Short rs → Short (g ++ rs)
+short-append [] rs a b = b
+short-append (run v n ∷ g) rs a b = (a .0, short-append g rs (a .1) b)
+
+-- so many short runs have at most three times as many bytes
+pub short-size : (g : List Run) → Short g → length (bytes g) ≤ 3 * length g
+short-size [] h = omega arith
+short-size (run v n ∷ g) h = omega (arith, h .0, short-size g (h .1), length-append (replicate n v) (bytes g), length-replicate n v)
+
 gathers-none : (xs : List ℕ) → Gathers xs 0
-unfolding code cut
-gathers-none xs = record { within = omega arith; short = omega arith; gathers = refl }
+unfolding cut
+gathers-none xs = record { within = omega arith; border = refl; short = tt }
 
 gathers-more : (xs : List ℕ) (h d : ℕ) → Gathers xs h → Border xs h → d ≤ 3 → h + d ≤ length xs → Border xs (h + d) → Gathers xs (h + d)
 gathers-more xs h d G b l w b′ = record {
   within = w;
-  short = omega (arith, G .short, ap length cut-both, length-append (cut (take h xs)) (cut new), size-new, cut-few new (omega (arith, size-new)));
-  gathers = G .gathers ∙ gather-rest;
+  border = cut-border xs (h + d) b′;
+  short = rw cut-both (short-append (cut (take h xs)) (cut new) (G .short) (short-few (cut new) (omega (arith, ap length (bytes-cut new), size-new))));
 }
   where
     rest : List ℕ
@@ -47,30 +67,15 @@ gathers-more xs h d G b l w b′ = record {
     size-new : length new ≡ d
     size-new = length-take-le d rest (omega (arith, length-drop h xs))
 
-    border-rest : Border rest d
-    border-rest p q e =
-        let i : h + d - 1 ≡ h + (d - 1) = omega arith in
-        b′ (omega arith) (omega (arith, length-drop h xs)) (ap (λ (k : ℕ). getD xs k 0) i ∙ sym (getD-drop h xs (d - 1) 0) ∙ e ∙ getD-drop h xs d 0)
-
     border-both : Border both h
     border-both p q e =
         b p (omega (arith, size)) (sym (getD-take (h + d) xs (h - 1) 0 (omega arith)) ∙ e ∙ getD-take (h + d) xs h 0 (omega (arith, size)))
-
-    cut-rest : cut rest ≡ cut new ++ cut (drop d rest)
-    cut-rest = cut-border rest d border-rest
 
     cut-both : cut both ≡ cut (take h xs) ++ cut new
     cut-both =
         cut-border both h border-both
         ∙ ap (λ (y : List ℕ). cut y ++ cut (drop h both)) (take-take h (h + d) xs (omega arith))
         ∙ ap (λ (y : List ℕ). cut (take h xs) ++ cut y) (ap (drop h) (take-add h d xs) ∙ drop-at (take h xs) new h (length-take-le h xs (omega arith)))
-
-    gather-rest : gather (cut (take h xs)) (cut rest) ≡ gather (cut both) (cut (drop (h + d) xs))
-    gather-rest =
-        ap (gather (cut (take h xs))) cut-rest
-        ∙ gather-runs (cut (take h xs)) (cut new) (cut (drop d rest)) (omega (arith, ap length (bytes-cut new), size-new))
-        ∙ ap (λ (g : List Run). gather g (cut (drop d rest))) (sym cut-both)
-        ∙ ap (λ (y : List ℕ). gather (cut both) (cut y)) (drop-drop d h xs)
 
 -- ---- the same, of a channel
 

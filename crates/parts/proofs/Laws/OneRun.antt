@@ -8,7 +8,7 @@ use lib.ListN.{length, getD}
 use lib.Dec.{eqb}
 use borrow.Author.Tests.{eq-eqb, ne-eqb, eqb-true, eqb-false}
 use Rattle.parts.specs.Channel.{Run, grow, cut, bytes, literals, packet, stretch, channel}
-use Rattle.parts.specs.Part.{oneRun}
+use Rattle.parts.specs.Inner.{oneRun}
 use Rattle.parts.proofs.Laws.Channel.{and-both, grow-same, grow-other, bytes-cut}
 use Rattle.parts.proofs.Laws.Cut.{grow-some}
 

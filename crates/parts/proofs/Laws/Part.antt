@@ -8,10 +8,13 @@ use native.Mathlib.Omega.{arith}
 use native.Mathlib.Nat.{add-zero}
 use lib.ListN.{length, getD, take, drop, drop-of-length-le}
 use lib.Seq.{drop-drop, getD-drop, getD-take, length-take-le}
+use borrow.Author.Tests.{le-leb, lt-leb}
 use Rattle.steps.specs.Loop.{pick}
-use Rattle.parts.specs.Channel.{run, cut, literals, packet, stretch, gather, code, channel}
-use Rattle.parts.specs.Part.{FourEqual, oneRun, runOf, Gathers, Stops, Share, Front, Parted}
-use Rattle.parts.proofs.Laws.Channel.{gather-long}
+use Rattle.parts.specs.Channel.{Run, run, cut, literals, packet, stretch, gather, code, channel}
+use Rattle.parts.specs.Inner.{FourEqual, Short, oneRun, runOf, Gathers, Stops, Front, gatheredOf, longOf, partOf, firstPart, Parted}
+use Rattle.parts.specs.declared.Part.{Part}
+use Rattle.parts.proofs.Laws.Channel.{bytes-cut, gather-long}
+use Rattle.parts.proofs.Laws.Gather.{gathers-code, short-size}
 use Rattle.parts.proofs.Laws.OneRun.{one-run, not-one-run}
 use Rattle.parts.proofs.Laws.Places.{length-channel, drop-channel, take-channel}
 
@@ -25,7 +28,46 @@ pub run-some : (v n : ℕ) → 0 < n → runOf v n ≡ packet v n
 run-some v zero h = absurd (omega arith)
 run-some v (suc n) h = refl
 
+-- ---- the first part, by its runs
+
+gathered-short : (g rs : List Run) → Short g → gatheredOf (g ++ rs) ≡ g ++ gatheredOf rs
+unfolding gatheredOf
+gathered-short [] rs h = refl
+gathered-short (run v n ∷ g) rs h = rw (lt-leb 4 n (h .0), gatheredOf) (ap (λ (l : List Run). run v n ∷ l) (gathered-short g rs (h .1)))
+
+long-short : (g rs : List Run) → Short g → longOf (g ++ rs) ≡ longOf rs
+unfolding longOf
+long-short [] rs h = refl
+long-short (run v n ∷ g) rs h = rw (lt-leb 4 n (h .0), longOf) (long-short g rs (h .1))
+
+module _ (xs : List ℕ) (h : ℕ) (G : Gathers xs h) where
+  -- what gathers is the front, where a long run follows, or the end
+  first-is : gatheredOf (cut (drop h xs)) ≡ [] → partOf (take h xs) (longOf (cut (drop h xs))) ≡ firstPart xs
+  unfolding firstPart
+  first-is e =
+      let front : gatheredOf (cut xs) ≡ cut (take h xs) =
+      ap gatheredOf (G .border) ∙ gathered-short (cut (take h xs)) (cut (drop h xs)) (G .short) ∙ rw e (append-nil (cut (take h xs))) in
+      let long : longOf (cut xs) ≡ longOf (cut (drop h xs)) = ap longOf (G .border) ∙ long-short (cut (take h xs)) (cut (drop h xs)) (G .short) in
+      rw (front, long, bytes-cut)
+
+  is-end : h ≡ length xs → partOf (take h xs) 0 ≡ firstPart xs
+  unfolding cut gatheredOf longOf
+  is-end e =
+      let none : cut (drop h xs) ≡ [] = ap cut (drop-of-length-le xs {i = h} (omega arith)) in
+      rw none at (first-is (ap gatheredOf none))
+
+  is-long : (v r : ℕ) (rs : List Run) → cut (drop h xs) ≡ run v r ∷ rs → 4 ≤ r → partOf (take h xs) r ≡ firstPart xs
+  unfolding gatheredOf longOf
+  is-long v r rs e l =
+      let none : gatheredOf (cut (drop h xs)) ≡ [] = ap gatheredOf e ∙ rw (le-leb 4 r l, gatheredOf) in
+      let long : longOf (cut (drop h xs)) ≡ r = ap longOf e ∙ rw (le-leb 4 r l, longOf) in
+      ap (partOf (take h xs)) (sym long) ∙ first-is none
+
 -- ---- the part
+
+-- of the h bytes ys that gather, l are literals and s a short run: all are the one or the other
+abbrev Share : List ℕ → ℕ → ℕ → ℕ → Type 0
+Share ys h l s = (l ≡ pick (oneRun ys) 0 h) × (s ≡ pick (oneRun ys) h 0)
 
 -- h bytes gather, of which l are literals and s a short run
 module _ (xs : List ℕ) (h l s : ℕ) (G : Gathers xs h) (S : Share (take h xs) h l s) where
@@ -59,7 +101,7 @@ module _ (xs : List ℕ) (h l s : ℕ) (G : Gathers xs h) (S : Share (take h xs)
           rw (a, b)
           (one .2 ∙ ap (packet (getD ys 0 0)) size ∙ ap (λ (v : ℕ). packet v h) (getD-take h xs 0 0 some) ∙ sym (run-some (getD xs 0 0) h some))
       go false e a b =
-          rw (a, b) (not-one-run ys e (omega (arith, G .short, size)) ∙ sym (append-nil (literals 0 ys)))
+          rw (a, b) (not-one-run ys e (omega (arith, short-size (cut ys) (G .short), ap length (bytes-cut ys), size)) ∙ sym (append-nil (literals 0 ys)))
 
   -- what the channel is coded as, where a long run of r bytes follows, or none and the end
   abbrev pub Found : ℕ → Type 0
@@ -77,14 +119,14 @@ module _ (xs : List ℕ) (h l s : ℕ) (G : Gathers xs h) (S : Share (take h xs)
   found-end e =
       let none : drop h xs ≡ [] = drop-of-length-le xs {i = h} (omega arith) in
       let past : drop (h + 0) xs ≡ [] = drop-of-length-le xs {i = h + 0} (omega arith) in
-      found 0 (G .gathers ∙ rw (none, past) (sym (append-nil (stretch (cut ys)))))
+      found 0 (gathers-code xs h G ∙ rw (none, past) (sym (append-nil (stretch (cut ys)))))
 
   pub found-long : (r : ℕ) → cut (drop h xs) ≡ run (getD (drop h xs) 0 0) r ∷ cut (drop r (drop h xs)) → 4 ≤ r → Found r
   unfolding code
   found-long r e b =
       let v : getD (drop h xs) 0 0 ≡ getD xs h 0 = getD-drop h xs 0 0 ∙ ap (λ (a : ℕ). getD xs a 0) (add-zero h) in
       found r
-      (G .gathers
+      (gathers-code xs h G
       ∙ ap (gather (cut ys)) e
       ∙ gather-long (cut ys) (getD (drop h xs) 0 0) r (cut (drop r (drop h xs))) b
       ∙ ap (λ (p : List ℕ). stretch (cut ys) ++ (p ++ code (drop r (drop h xs)))) (sym (run-some (getD (drop h xs) 0 0) r (omega arith)) ∙ ap (λ (a : ℕ). runOf a r) v)
@@ -96,40 +138,56 @@ module _ (xs : List ℕ) (h l s : ℕ) (G : Gathers xs h) (S : Share (take h xs)
 pub long-follows : (px : List ℕ) (at left h : ℕ) → Stops px at left h → (h ≡ left → ⊥) → (h + 4 ≤ left) × FourEqual px (at + 4 * h)
 long-follows px at left h e n = ⊎-elim (λ q. absurd (n q)) (λ q. q) e
 
-module _ (px : List ℕ) (at left h l s r : ℕ) (G : Gathers (channel px at left) h) (S : Share (channel px at h) h l s) where
+module _ (px : List ℕ) (at left h : ℕ) (r : Part) (n : ℕ) (G : Gathers (channel px at left) h) (e : r ≡ partOf (channel px at h) n) where
   abbrev xs : List ℕ
   xs = channel px at left
 
   within : h ≤ left
   within = omega (arith, G .within, length-channel px at left)
 
-  share : Share (take h xs) h l s
-  share = subst (λ (y : List ℕ). Share y h l s) (sym (take-channel px at h left within)) S
+  part-is : partOf (take h xs) n ≡ r
+  part-is = ap (λ (y : List ℕ). partOf y n) (take-channel px at h left within) ∙ sym e
 
-  sum : l + s ≡ h
-  sum = sum-of xs h l s G share
+  share : Share (take h xs) h (r .literals) (r .short)
+  share =
+      let size : length (take h xs) ≡ h = length-take-le h xs (G .within) in
+      (ap (λ (p : Part). p .literals) (sym part-is) ∙ ap (pick (oneRun (take h xs)) 0) size, ap (λ (p : Part). p .short) (sym part-is) ∙ ap (λ (k : ℕ). pick (oneRun (take h xs)) k 0) size)
 
-  short : s ≤ 127
-  short = omega (arith, short-of xs h l s G share)
+  sum : r .literals + r .short ≡ h
+  sum = sum-of xs h (r .literals) (r .short) G share
 
-  pub parted-end : 0 < left → h ≡ left → r ≡ 0 → Parted left xs l s r
-  parted-end n e z = record {
+  short : r .short ≤ 127
+  short = omega (arith, short-of xs h (r .literals) (r .short) G share)
+
+  long-is : r .long ≡ n
+  long-is = ap (λ (p : Part). p .long) (sym part-is)
+
+  pub first-end : h ≡ left → n ≡ 0 → r ≡ firstPart xs
+  first-end l z = sym part-is ∙ rw z (is-end xs h G (l ∙ sym (length-channel px at left)))
+
+  pub parted-end : 0 < left → h ≡ left → n ≡ 0 → Parted left xs (r .literals) (r .short) (r .long)
+  parted-end some l z = record {
     some = omega (arith, sum);
-    within = omega (arith, sum);
+    within = omega (arith, sum, long-is);
     short = short;
-    small = omega arith;
-    parted = rw z (found-end xs h l s G share (e ∙ sym (length-channel px at left)));
+    small = omega (arith, long-is);
+    parted = rw (long-is ∙ z) (found-end xs h (r .literals) (r .short) G share (l ∙ sym (length-channel px at left)));
   }
 
-  pub parted-long : (n : ℕ) → r ≡ n → Front (left - h) (channel px (at + 4 * h) (left - h)) n → Parted left xs l s r
-  parted-long n e F =
-      let follows : cut (drop h xs) ≡ run (getD (drop h xs) 0 0) n ∷ cut (drop n (drop h xs)) =
-      subst (λ (y : List ℕ). cut y ≡ run (getD y 0 0) n ∷ cut (drop n y)) (sym (drop-channel px at h left)) (F .front) in
-      let room = within in
-      record {
-        some = omega (arith, F .long);
-        within = omega (arith, sum, F .within);
-        short = short;
-        small = omega (arith, F .small);
-        parted = rw e (found-long xs h l s G share n follows (F .long));
-      }
+  module _ (F : Front (left - h) (channel px (at + 4 * h) (left - h)) n) where
+    follows : cut (drop h xs) ≡ run (getD (drop h xs) 0 0) n ∷ cut (drop n (drop h xs))
+    follows = subst (λ (y : List ℕ). cut y ≡ run (getD y 0 0) n ∷ cut (drop n y)) (sym (drop-channel px at h left)) (F .front)
+
+    pub first-long : r ≡ firstPart xs
+    first-long = sym part-is ∙ is-long xs h G (getD (drop h xs) 0 0) n (cut (drop n (drop h xs))) follows (F .long)
+
+    pub parted-long : Parted left xs (r .literals) (r .short) (r .long)
+    parted-long =
+        let room = within in
+        record {
+          some = omega (arith, long-is, F .long);
+          within = omega (arith, sum, long-is, F .within);
+          short = short;
+          small = omega (arith, long-is, F .small);
+          parted = rw long-is (found-long xs h (r .literals) (r .short) G share n follows (F .long));
+        }

@@ -2,7 +2,7 @@
 use borrow.Author.Needs.{needs}
 use Prim.Native.Nat.{_-_, _≤_}
 use native.Mathlib.Omega.{arith}
-use Rattle.parts.specs.Part.{Equal}
+use Rattle.parts.specs.Inner.{Equal}
 use Rattle.parts.proofs.Laws.Front.{equal-first, equal-four}
 use Rattle.parts.proofs.equal_fours.Statement.{statement}
 use Rattle.parts.proofs.equal_fours.Tie as tie

@@ -2,8 +2,8 @@
 use Prim.Native.Nat.{_+_, _*_, _≤_}
 use native.Mathlib.Omega.{arith}
 use borrow.Author.Needs.{needs}
-use Rattle.parts.specs.Part.{FourEqual}
-use Rattle.parts.proofs.Laws.Part.{parted-end, parted-long, long-follows}
+use Rattle.parts.specs.Inner.{FourEqual}
+use Rattle.parts.proofs.Laws.Part.{first-end, first-long, parted-end, parted-long, long-follows}
 use Rattle.parts.proofs.part_at.Statement.{statement}
 use Rattle.parts.proofs.part_at.Tie as tie
 
@@ -14,7 +14,7 @@ part-of-requires : tie.Need-part-of-requires
 part-of-requires c κs = search needs
 
 returns : tie.Need-returns
-returns c = search parted-end
+returns c = (search first-end, search parted-end)
 
 -- where the channel does not end, four equal bytes follow
 follows : (c : tie.Else1) → let a = c .before .before .before .args in let h = c .before .gathered .result in
@@ -41,7 +41,7 @@ part-of-requires-2 : tie.Need-part-of-requires-2
 part-of-requires-2 c κs = search needs
 
 returns-2 : tie.Need-returns-2
-returns-2 c = search parted-long
+returns-2 c = (search first-long, search parted-long)
 
 pub part-at-spec : {M : Type 1} → statement M
 part-at-spec =

@@ -2,7 +2,7 @@
 use Prim.Native.Nat.{_-_, _≤_}
 use native.Mathlib.Omega.{arith}
 use borrow.Author.Needs.{needs}
-use Rattle.parts.specs.Part.{Equal}
+use Rattle.parts.specs.Inner.{Equal}
 use Rattle.parts.proofs.Laws.Front.{equal-next, run-other, run-stop}
 use Rattle.parts.proofs.run_at.Statement.{statement}
 use Rattle.parts.proofs.run_at.Tie as tie

@@ -8,8 +8,9 @@ use lib.ListN.{length, getD, take, drop, set, length-append, drop-of-length-le}
 use lib.Seq.{take-all}
 use Rattle.steps.specs.Place.{spread}
 use Rattle.parts.specs.Channel.{literals, code, gather, stretch, cut, channel}
-use Rattle.runs.specs.Row.{mark, codedRow, Stored, worstChannel}
-use Rattle.parts.specs.Part.{runOf, Parted}
+use Rattle.runs.specs.Row.{mark, codedRow, worstChannel}
+use Rattle.runs.specs.Inner.{Stored}
+use Rattle.parts.specs.Inner.{runOf, Parted}
 use Rattle.parts.proofs.Laws.Channel.{literals-packet, length-literals}
 use Rattle.steps.proofs.Laws.Place.{spread-append}
 use Rattle.parts.proofs.Laws.Places.{length-channel, drop-channel, take-channel, getD-channel}

@@ -35,7 +35,7 @@ write-literals-requires c κs =
     let q = c .before in
     let t = q .before .before in
     let p = q .part-at .result in
-    let size = part-size (t .before .before .before .args .px .now) (t .loop .at) (t .loop .left) (p .literals) (p .short) (p .long) (q .part-at .ensures) in
+    let size = part-size (t .before .before .before .args .px .now) (t .loop .at) (t .loop .left) (p .literals) (p .short) (p .long) (q .part-at .ensures .1) in
     omega arith
 
 mul-write-run : tie.Need-mul-write-run Inv-loop μ-loop
@@ -50,7 +50,7 @@ write-run-requires c κs =
     let q = w .before .before in
     let t = q .before .before in
     let p = q .part-at .result in
-    let size = part-size (t .before .before .before .args .px .now) (t .loop .at) (t .loop .left) (p .literals) (p .short) (p .long) (q .part-at .ensures) in
+    let size = part-size (t .before .before .before .args .px .now) (t .loop .at) (t .loop .left) (p .literals) (p .short) (p .long) (q .part-at .ensures .1) in
     omega (arith, w .write-literals .kept)
 
 add-write-run-2 : tie.Need-add-write-run-2 Inv-loop μ-loop
@@ -69,7 +69,7 @@ write-run-requires-2 c κs =
     let q = w .before .before in
     let t = q .before .before in
     let p = q .part-at .result in
-    let size = part-size (t .before .before .before .args .px .now) (t .loop .at) (t .loop .left) (p .literals) (p .short) (p .long) (q .part-at .ensures) in
+    let size = part-size (t .before .before .before .args .px .now) (t .loop .at) (t .loop .left) (p .literals) (p .short) (p .long) (q .part-at .ensures .1) in
     omega (arith, w .write-literals .kept, v .write-run .kept)
 
 mul-at : tie.Need-mul-at Inv-loop μ-loop
@@ -93,8 +93,8 @@ loop-again c =
     let t = q .before .before in
     let p = q .part-at .result in
     let px = t .before .before .before .args .px .now in
-    let size = part-size px (t .loop .at) (t .loop .left) (p .literals) (p .short) (p .long) (q .part-at .ensures) in
-    let store = part-store px (t .loop .at) (t .loop .left) (p .literals) (p .short) (p .long) (q .part-at .ensures) in (
+    let size = part-size px (t .loop .at) (t .loop .left) (p .literals) (p .short) (p .long) (q .part-at .ensures .1) in
+    let store = part-store px (t .loop .at) (t .loop .left) (p .literals) (p .short) (p .long) (q .part-at .ensures .1) in (
       omega arith,
       omega (arith, w .write-literals .ensures .0, v .write-run .ensures .0, u .write-run2 .ensures .0),
       omega (arith, w .write-literals .kept, v .write-run .kept, u .write-run2 .kept),

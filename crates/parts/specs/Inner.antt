@@ -1,13 +1,14 @@
--- What the scan of a channel promises: how the front of the channel is written.
+-- What only the contracts of inner functions cite: the scan of a channel, and the part that it finds.
 use Prim.Native.Nat.{ℕ, zero, suc, _+_, _-_, _*_, _<_, _≤_}
 use mathlib.Core.Path.{_≡_}
 use mathlib.Core.Logic.{_⊎_}
-use mathlib.Core.Bool.{Bool, false, _&&_}
+use mathlib.Core.Bool.{Bool, true, false, _&&_}
 use mathlib.Core.List.{List, [], _∷_, _++_}
 use lib.ListN.{length, getD, take, drop}
-use lib.Dec.{eqb}
+use lib.Dec.{eqb, leb}
 use Rattle.steps.specs.Loop.{pick}
-use Rattle.parts.specs.Channel.{run, cut, literals, packet, gather, code}
+use Rattle.parts.specs.Channel.{Run, run, cut, bytes, literals, packet, code}
+use Rattle.parts.specs.declared.Part.{Part}
 
 -- ---- the search for four equal bytes
 
@@ -25,11 +26,16 @@ pub record Skip (px : List ℕ) (at r : ℕ) : Type 0 where
   pub equal : r ≡ 0 → FourEqual px at
   pub differ : 0 < r → getD px (at + 4 * (r - 1)) 0 ≡ getD px (at + 4 * r) 0 → ⊥
 
--- the first h bytes of xs gather: they are cut into runs of at most 3
+-- runs shorter than 4
+abbrev pub Short : List Run → Type 0
+Short [] = Unit {0}
+Short (run v n ∷ rs) = (n < 4) × Short rs
+
+-- the first h bytes of xs gather: the channel is cut after them, and they into runs shorter than 4
 pub record Gathers (xs : List ℕ) (h : ℕ) : Type 0 where
   pub within : h ≤ length xs
-  pub short : h ≤ 3 * length (cut (take h xs))
-  pub gathers : code xs ≡ gather (cut (take h xs)) (cut (drop h xs))
+  pub border : cut xs ≡ cut (take h xs) ++ cut (drop h xs)
+  pub short : Short (cut (take h xs))
 
 -- the search stops at byte r of n: at the end, or before four equal bytes
 abbrev pub Stops : List ℕ → ℕ → ℕ → ℕ → Type 0
@@ -49,10 +55,6 @@ oneRun (a ∷ b ∷ []) = eqb b a
 oneRun (a ∷ b ∷ c ∷ []) = eqb b a && eqb c b
 oneRun (a ∷ b ∷ c ∷ d ∷ xs) = false
 
--- of the h bytes ys that gather, l are literals and s a short run: all are the one or the other
-abbrev pub Share : List ℕ → ℕ → ℕ → ℕ → Type 0
-Share ys h l s = (l ≡ pick (oneRun ys) 0 h) × (s ≡ pick (oneRun ys) h 0)
-
 -- the first run of xs, which has n bytes, is a long one of r
 pub record Front (n : ℕ) (xs : List ℕ) (r : ℕ) : Type 0 where
   pub long : 4 ≤ r
@@ -66,6 +68,24 @@ runOf v zero = []
 runOf v (suc n) = packet v (suc n)
 
 -- ---- the part
+
+-- the runs before the first of 4 or more
+unfoldable pub gatheredOf : List Run → List Run
+gatheredOf [] = []
+gatheredOf (run v n ∷ rs) = elim (leb 4 n) [ true ↦ [] | false ↦ run v n ∷ gatheredOf rs ]
+
+-- how many bytes the first run of 4 or more has; 0 where there is none
+unfoldable pub longOf : List Run → ℕ
+longOf [] = 0
+longOf (run v n ∷ rs) = elim (leb 4 n) [ true ↦ n | false ↦ longOf rs ]
+
+-- the part whose bytes ys gather, as one short run or as literals, and whose long run has so many bytes
+abbrev pub partOf : List ℕ → ℕ → Part
+partOf ys long = record { literals = pick (oneRun ys) 0 (length ys); short = pick (oneRun ys) (length ys) 0; long = long }
+
+-- the first part of a channel
+unfoldable pub firstPart : List ℕ → Part
+firstPart xs = partOf (bytes (gatheredOf (cut xs))) (longOf (cut xs))
 
 -- xs, which has n bytes, starts with l that are literals, s that are a short run and r that are a long one
 pub record Parted (n : ℕ) (xs : List ℕ) (l s r : ℕ) : Type 0 where
