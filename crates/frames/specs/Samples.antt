@@ -1,13 +1,13 @@
 -- A frame of samples: its pixels as four bytes each, and the first that cannot be written.
-use Prim.Native.Nat.{ℕ, zero, suc, _+_, _*_, _<_, _≤_}
-use mathlib.Core.Bool.{Bool, true, false, _||_}
+use Prim.Native.Nat.{ℕ, zero, suc, _+_, _*_, _<_}
+use mathlib.Core.Bool.{true, false}
 use mathlib.Core.List.{List, [], _∷_}
 use mathlib.Core.Path.{_≡_}
 use lib.ListN.{getD}
 use lib.Ieee.{Float, nan}
 use Rattle.pixel.specs.declared.Pixel.{Pixel}
 use Rattle.pixel.specs.declared.Rgbe.{Rgbe}
-use Rattle.pixel.specs.Rgbe.{bytesOf, near, tooBright}
+use Rattle.pixel.specs.Rgbe.{bytesOf, tooBright}
 
 -- the pixel of the three samples from sample i on
 abbrev pub pixelAt : List Float → ℕ → Pixel
@@ -26,16 +26,6 @@ packed samples i (suc n) = four (bytesOf (pixelAt samples i)) (packed samples (i
 unfoldable pub firstBright : List Float → ℕ → ℕ → ℕ
 firstBright samples i zero = zero
 firstBright samples i (suc n) = elim (tooBright (pixelAt samples i)) [ true ↦ zero | false ↦ suc (firstBright samples (i + 3) n) ]
-
--- one of n samples from sample i on is above 2^126
-unfoldable pub anyNear : List Float → ℕ → ℕ → Bool
-anyNear samples i zero = false
-anyNear samples i (suc n) = near (getD samples i nan) || anyNear samples (i + 1) n
-
--- of w pixels, the first from sample i on, the first r can be written
-pub record Passed (samples : List Float) (i w r : ℕ) : Type 0 where
-  pub within : r ≤ w
-  pub passed : (n : ℕ) → firstBright samples i (r + n) ≡ r + firstBright samples (i + 3 * r) n
 
 -- of n pixels, k is the first that cannot be written
 pub record FirstBright (samples : List Float) (n k : ℕ) : Type 0 where

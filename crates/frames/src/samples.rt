@@ -9,7 +9,8 @@ ghost use lib.ListN.{length};
 ghost use lib.Dec.{leb};
 ghost use Rattle.steps.specs.Place.{spread};
 ghost use Rattle.runs.specs.Row.{rowOf};
-ghost use Rattle.frames.specs.Samples.{pixelAt, four, packed, anyNear, Passed, firstBright};
+ghost use Rattle.frames.specs.Samples.{pixelAt, four, packed, firstBright};
+ghost use Rattle.frames.specs.Inner.{anyNear, Passed};
 ghost use Rattle.frames.specs.Frame.{rowsOf, fileOf};
 
 // The pixel of the three samples from a place on.

@@ -28,11 +28,7 @@ pub fn mantissa(q: Rgbe) -> usize
 pub fn shift(e: u8) -> usize
     ensures { λ r. ⌜ r ≡ crateShift e ⌝ }
 {
-    let n = steps::wide(e);
-    if 128 < n {
-        return 141 + (n - 128) % 32;
-    }
-    141 - (128 - n) % 32
+    pixel::shift(e) as usize
 }
 
 // Whether m times 2^s is below n times 2^t. Powers from 2^8 on decide alike.

@@ -1,4 +1,4 @@
--- The laws of the definitions in `specs/`: a channel, its cut, its places, the scan, and the samples.
+-- The laws of the definitions in `specs/`: a channel, its cut, its places, and the scan.
 pub mod Channel
 pub mod Cut
 pub mod Places
@@ -6,4 +6,3 @@ pub mod Gather
 pub mod Front
 pub mod OneRun
 pub mod Part
-pub mod Samples

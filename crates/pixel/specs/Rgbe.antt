@@ -1,9 +1,10 @@
 -- Four bytes to three samples, and three samples to four bytes, over whole numbers of 2^-149.
-use mathlib.Core.Path.{_≡_}
 use mathlib.Core.Bool.{Bool}
-use Prim.Native.Nat.{ℕ, _+_, _-_, _*_, _/_, _%_, _^_, _<_, max}
+use mathlib.Core.List.{List}
+use Prim.Native.Nat.{ℕ, _+_, _-_, _*_, _/_, _%_, _^_, max}
 use lib.Dec.{ltb, leb, eqb}
-use lib.Ieee.{Float, size}
+use lib.ListN.{getD}
+use lib.Ieee.{size}
 use Rattle.steps.specs.Loop.{pick}
 use Rattle.pixel.specs.declared.Pixel.{Pixel}
 use Rattle.pixel.specs.declared.Rgbe.{Rgbe}
@@ -24,6 +25,10 @@ crateScale e = pick (eqb e 0) 0 (2 ^ crateShift e)
 -- the crate's sample
 unfoldable pub crateUnits : ℕ → ℕ → ℕ
 crateUnits m e = m * crateScale e
+
+-- the four bytes from byte i on
+abbrev pub rgbeAt : List ℕ → ℕ → Rgbe
+rgbeAt bytes i = record { r = getD bytes i 0; g = getD bytes (i + 1) 0; b = getD bytes (i + 2) 0; e = getD bytes (i + 3) 0 }
 
 -- the pixel of four bytes, by a rule for one sample
 abbrev pub pixelOf : (ℕ → ℕ → ℕ) → Rgbe → Pixel
@@ -61,17 +66,9 @@ coded digits p = record { r = byteOf digits (mag (p .r)); g = byteOf digits (mag
 unfoldable pub tooBright : Pixel → Bool
 tooBright p = leb (2 ^ 276) (peak p)
 
--- a sample is above 2^126, which is 2^275 times 2^-149
-unfoldable pub near : Float → Bool
-near x = ltb (2 ^ 275) (mag x)
-
 -- The bytes of a pixel. One that is too bright has none by the paper, and counts as black here so that every pixel has some.
 unfoldable pub bytesOf : Pixel → Rgbe
 bytesOf p = pick (leb (peak p) dark) black (pick (tooBright p) black (coded (size (peak p)) p))
-
--- four bytes as one word, the first lowest
-abbrev pub AsWord : Rgbe → ℕ → Type 0
-AsWord q w = (q .r < 256) × (q .g < 256) × (q .b < 256) × (q .e < 256) × (w ≡ q .r + q .g * 256 + q .b * 65536 + q .e * 16777216)
 
 -- the bytes, or that the pixel is too bright
 unfoldable pub packedOf : Pixel → Packed

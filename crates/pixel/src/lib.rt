@@ -1,23 +1,26 @@
 // Four bytes to three samples and back.
 ghost use mathlib.Core.Path.{_≡_};
 ghost use mathlib.Core.Bool.{_&&_};
-ghost use Prim.Native.Nat.{_/_, _^_, _<_, _≤_, max};
+ghost use Prim.Native.Nat.{_+_, _/_, _^_, _<_, _≤_, max};
 ghost use lib.Dec.{T, ltb};
 ghost use lib.Ieee.{size};
+ghost use lib.ListN.{length};
 ghost use Rattle.pixel.specs.Units.{ofUnits, mag, bright};
 ghost use Rattle.pixel.specs.Rgbe.{
+  crateShift,
   crateScale,
   crateUnits,
+  rgbeAt,
   pixelOf,
   peak,
   dark,
   byteOf,
   tooBright,
-  near,
   bytesOf,
-  AsWord,
   packedOf,
 };
+ghost use Rattle.pixel.specs.Inner.{near, AsWord};
+ghost use Rattle.pixel.specs.declared.Rgbe.{Rgbe};
 
 // Three samples.
 pub struct Pixel {
@@ -63,18 +66,49 @@ fn power(j: u32) -> f32
     f32::from_bits((j - 22) * FIELD)
 }
 
+// A mantissa of 1 is worth 2^shift times 2^-149 at the exponent byte e, by the crate's rule, if e is not 0.
+pub fn shift(e: u8) -> u32
+    ensures { λ r. ⌜ r ≡ crateShift e ⌝ }
+{
+    if e > 128 {
+        141 + (e as u32 - 128) % 32
+    } else {
+        141 - (128 - e as u32) % 32
+    }
+}
+
 // What a mantissa of 1 is worth at the exponent byte e, by the crate's rule.
 fn crate_scale(e: u8) -> f32
     ensures { λ r. ⌜ r ≡ ofUnits (crateScale e) ⌝ }
 {
-    if e == 0 {
-        return 0.0;
+    if e == 0 { 0.0 } else { power(shift(e)) }
+}
+
+// Four bytes as one word, the first lowest.
+fn word(a: u8, b: u8, c: u8, d: u8) -> u32
+    ensures { λ w. ⌜ AsWord (record { r = a; g = b; b = c; e = d }) w ⌝ }
+{
+    a as u32 + b as u32 * 256 + c as u32 * 65536 + d as u32 * 16777216
+}
+
+// The four bytes of a word.
+fn parts_of(w: u32) -> Rgbe
+    ensures { λ r. ⌜ ((q : Rgbe) → AsWord q w → r ≡ q) ⌝ }
+{
+    Rgbe {
+        r: (w % 256) as u8,
+        g: (w / 256 % 256) as u8,
+        b: (w / 65536 % 256) as u8,
+        e: (w / 16777216 % 256) as u8,
     }
-    if e > 128 {
-        power(141 + (e as u32 - 128) % 32)
-    } else {
-        power(141 - (128 - e as u32) % 32)
-    }
+}
+
+// The four bytes of the pixel from a place on.
+pub fn rgbe_at(bytes: &[u8], i: usize) -> Rgbe
+    requires { ⌜ i + 4 ≤ length (now bytes) ⌝ }
+    ensures { λ r. ⌜ r ≡ rgbeAt (now (bytes .entry)) i ⌝ }
+{
+    parts_of(word(bytes[i], bytes[i + 1], bytes[i + 2], bytes[i + 3]))
 }
 
 // Four bytes to three samples, by the crate's rule.
@@ -172,13 +206,7 @@ fn word_of(p: Pixel) -> u32
 pub fn pack(p: Pixel) -> Rgbe
     ensures { λ r. ⌜ r ≡ bytesOf p ⌝ }
 {
-    let w = word_of(p);
-    Rgbe {
-        r: (w % 256) as u8,
-        g: (w / 256 % 256) as u8,
-        b: (w / 65536 % 256) as u8,
-        e: (w / 16777216 % 256) as u8,
-    }
+    parts_of(word_of(p))
 }
 
 // Three samples to four bytes, or that the pixel is too bright.

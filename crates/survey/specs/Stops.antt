@@ -5,7 +5,7 @@ use lib.Dec.{ltb}
 use lib.ListN.{getD, set}
 use Rattle.steps.specs.Loop.{pick}
 use Rattle.pixel.specs.declared.Rgbe.{Rgbe}
-use Rattle.reader.specs.Samples.{rgbeAt}
+use Rattle.pixel.specs.Rgbe.{rgbeAt}
 use Rattle.light.specs.Light.{isBlack}
 
 -- one where m is p or more

@@ -5,8 +5,7 @@ use mathlib.Core.Bool.{Bool}
 use mathlib.Core.List.{List}
 use Rattle.steps.specs.Loop.{pick}
 use Rattle.pixel.specs.declared.Rgbe.{Rgbe}
-use Rattle.pixel.specs.Rgbe.{black}
-use Rattle.reader.specs.Samples.{rgbeAt}
+use Rattle.pixel.specs.Rgbe.{rgbeAt, black}
 use Rattle.light.specs.Light.{isBlack, isMasked, darker, brighter}
 use Rattle.survey.specs.declared.Totals.{Totals}
 

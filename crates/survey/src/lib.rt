@@ -6,7 +6,7 @@ use pixel::Rgbe;
 ghost use mathlib.Core.Path.{_≡_};
 ghost use Prim.Native.Nat.{_+_, _*_, _≤_, _<_};
 ghost use lib.ListN.{length};
-ghost use Rattle.reader.specs.Samples.{rgbeAt};
+ghost use Rattle.pixel.specs.Rgbe.{rgbeAt};
 ghost use mathlib.Core.Bool.{true};
 ghost use Rattle.survey.specs.Survey.{none, times, seenTimes, Alike, surveyOf};
 
@@ -33,19 +33,6 @@ pub fn nothing() -> Totals
         masked: 0,
         darkest: zeros,
         brightest: zeros,
-    }
-}
-
-// The pixel of the four bytes from a place of the store on.
-pub(crate) fn pixel_at(store: &[u8], i: usize) -> Rgbe
-    requires { ⌜ i + 4 ≤ length (now store) ⌝ }
-    ensures { λ r. ⌜ r ≡ rgbeAt (now (store .entry)) i ⌝ }
-{
-    Rgbe {
-        r: store[i],
-        g: store[i + 1],
-        b: store[i + 2],
-        e: store[i + 3],
     }
 }
 
@@ -120,7 +107,7 @@ pub fn row(store: &[u8], n: usize, totals: Totals) -> Totals
     let mut left = n;
     while 0 < left {
         let k = alike(store, i, left);
-        t = with_pixels(pixel_at(store, i), k, t);
+        t = with_pixels(pixel::rgbe_at(store, i), k, t);
         i += 4 * k;
         left -= k;
     }

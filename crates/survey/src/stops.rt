@@ -1,5 +1,4 @@
 // How many pixels have their light in each power of two, as the Radiance document has it.
-use crate::pixel_at;
 use pixel::Rgbe;
 ghost use mathlib.Core.Path.{_≡_};
 ghost use Prim.Native.Nat.{_*_, _≤_, _<_, max};
@@ -50,7 +49,7 @@ pub fn row(store: &[u8], n: usize, counts: &mut [usize; 264])
     let mut i = 0;
     let mut left = n;
     while 0 < left {
-        let k = stop_of(pixel_at(store, i));
+        let k = stop_of(pixel::rgbe_at(store, i));
         counts[k] = std::num::wrapping_add_usize(counts[k], 1);
         i += 4;
         left -= 1;

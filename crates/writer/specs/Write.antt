@@ -26,10 +26,6 @@ sizeChecks w h = check 7 (eqb w 0) ∷ check 10 (ltb 65535 w || ltb 65535 h) ∷
 abbrev pub frameChecks : ℕ → ℕ → ℕ → ℕ → List Check
 frameChecks w h got each = sizeChecks w h ++ check 11 (not (eqb got (each * (w * h)))) ∷ []
 
--- the number of the first check that fails, or 0
-unfoldable pub failing : List Check → ℕ
-failing checks = checked (λ n. n) checks 0
-
 -- check 12, of a frame of n pixels: the first that cannot be written is named
 unfoldable pub brightChecked : {A : Type 0} → (Answer ℕ → A) → List Float → ℕ → A → A
 brightChecked answer samples n rest = let k = firstBright samples 0 n in pick (ltb k n) (answer (refused 12 k)) rest

@@ -2,7 +2,8 @@
 use steps::refusal;
 ghost use mathlib.Core.Path.{_≡_};
 ghost use Prim.Native.Nat.{_≤_};
-ghost use Rattle.writer.specs.Write.{sizeChecks, frameChecks, failing};
+ghost use Rattle.writer.specs.Write.{sizeChecks, frameChecks};
+ghost use Rattle.writer.specs.Inner.{failing};
 
 // The number of the first of the checks 7 and 10 that fails, or 0.
 pub(crate) fn sizes(width: usize, height: usize) -> u8

@@ -1,7 +1,7 @@
 -- The laws that proofs use of `specs/Frame.antt`: the worst length, and a frame as its header and its rows. Within the limits nothing wraps.
 use Prim.Native.Nat.{ℕ, zero, suc, _+_, _*_, _/_, _^_, _<_, _≤_}
 use mathlib.Core.Bool.{Bool, true, false}
-use mathlib.Core.List.{List, append-nil}
+use mathlib.Core.List.{List}
 use mathlib.Core.Path.{_≡_, sym, ap, _∙_}
 use native.Mathlib.Nat.{mul-le-mul}
 use native.Mathlib.Omega.{arith}
@@ -70,9 +70,6 @@ module _ (w h : ℕ) (hw : w ≤ 65535) (hh : h ≤ 65535) where
   pub rows-fit : (px : List ℕ) → length (rowsOf px 0 w h) ≤ 2 ^ 35
   rows-fit px = omega (arith, rows-worst px 0 w h, worst-rows-fit)
 
-  pub frame-fits : (px : List ℕ) → length (frameOf px w h) ≤ 2 ^ 36
-  frame-fits px = omega (arith, frame-size px w h, rows-fit px, header-fits)
-
   module _ (r : ℕ) (er : r ≡ worstRow w) where
     pub worst-product : h * r < 2 ^ 64
     worst-product = omega (arith, worst-rows-fit, ap (λ (k : ℕ). h * k) er)
@@ -117,8 +114,3 @@ module _ (px : List ℕ) (w h : ℕ) (room n : ℕ) where
 
   pub fits-own : n ≡ length (frameOf px w h) → leb n room ≡ leb (length (frameOf px w h)) room
   fits-own e = rw e
-
--- height 0 is the header alone
-pub frame-none : (px : List ℕ) (w : ℕ) → frameOf px w 0 ≡ written w 0
-unfolding frameOf rowsOf
-frame-none px w = append-nil (written w 0)

@@ -7,9 +7,10 @@ use native.Mathlib.Nat.{not-suc-le-zero}
 use native.Mathlib.Omega.{arith}
 use lib.ListN.{getD}
 use lib.Ieee.{Float, nan}
-use Rattle.pixel.specs.Rgbe.{near}
+use Rattle.pixel.specs.Inner.{near}
 use Rattle.pixel.proofs.Laws.Bytes.{dim-pixel}
-use Rattle.frames.specs.Samples.{pixelAt, firstBright, anyNear, Passed}
+use Rattle.frames.specs.Samples.{pixelAt, firstBright}
+use Rattle.frames.specs.Inner.{anyNear, Passed}
 use Rattle.frames.proofs.Laws.Samples.{row-within, by-test, differ}
 
 module _ (samples : List Float) where

@@ -11,7 +11,7 @@ use lib.Pow.{pow-pos, pow-mono, shl-exact}
 use Rattle.pixel.specs.declared.Rgbe.{Rgbe}
 use Rattle.pixel.specs.Rgbe.{crateShift, crateUnits}
 use Rattle.pixel.proofs.Laws.Numbers.{either, same-test, mul-pow-pow}
-use Rattle.pixel.proofs.Laws.Scales.{crate-high, crate-low, crate-at, crate-none}
+use Rattle.pixel.proofs.Laws.Scales.{crate-at, crate-none}
 use Rattle.light.specs.Light.{lightOf, isBlack, isMasked, darker, brighter}
 
 -- ---- The largest sample is that of the largest mantissa
@@ -42,15 +42,6 @@ module _ (q : Rgbe) where
   light-some a m n h ea em en =
       let l : 0 < q .e = omega arith in
       rw (en, em, ea, ← crate-at (q .e) l) (simp max-scale)
-
--- ---- What a mantissa of 1 is worth
-
-module _ (e n : ℕ) (en : n ≡ e) where
-  pub shift-high : 128 < n → 141 + (n - 128) % 32 ≡ crateShift e
-  shift-high h = rw en (sym (crate-high e (omega arith)))
-
-  pub shift-low : n ≤ 128 → 141 - (128 - n) % 32 ≡ crateShift e
-  shift-low h = rw en (sym (crate-low e (omega arith)))
 
 -- ---- Light compared by mantissas and powers: powers from 2^8 on decide alike
 

@@ -13,7 +13,8 @@ use borrow.Author.Tests.{le-leb, lt-leb, lt-ltb, le-ltb, ltb-true, ltb-false}
 use Rattle.steps.specs.Loop.{pick}
 use Rattle.pixel.specs.declared.Pixel.{Pixel}
 use Rattle.pixel.specs.Units.{mag}
-use Rattle.pixel.specs.Rgbe.{peak, dark, byteOf, coded, black, tooBright, near, bytesOf}
+use Rattle.pixel.specs.Rgbe.{peak, dark, byteOf, coded, black, tooBright, bytesOf}
+use Rattle.pixel.specs.Inner.{near}
 use Rattle.pixel.proofs.Laws.Numbers.{either, pow-pow}
 
 -- ---- no sample is above the largest, and the largest is one of the three

@@ -12,7 +12,8 @@ use Rattle.steps.specs.Loop.{pick}
 use Rattle.pixel.specs.declared.Pixel.{Pixel}
 use Rattle.pixel.specs.declared.Rgbe.{Rgbe}
 use Rattle.pixel.specs.Units.{mag}
-use Rattle.pixel.specs.Rgbe.{peak, coded, black, AsWord}
+use Rattle.pixel.specs.Rgbe.{peak, coded, black}
+use Rattle.pixel.specs.Inner.{AsWord}
 use Rattle.pixel.proofs.Laws.Digits.{size-low}
 use Rattle.pixel.proofs.Laws.Bytes.{r-peak, g-peak, b-peak, isCoded, bytes-by-test, coded-between}
 use Rattle.pixel.proofs.word_of.Statement.{statement}

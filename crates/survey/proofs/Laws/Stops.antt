@@ -13,7 +13,7 @@ use lib.Pow.{pow-pos}
 use Rattle.steps.proofs.Laws.Turns.{and-left, and-right}
 use Rattle.pixel.proofs.Laws.Numbers.{either, pow-pow}
 use Rattle.pixel.specs.declared.Rgbe.{Rgbe}
-use Rattle.reader.specs.Samples.{rgbeAt}
+use Rattle.pixel.specs.Rgbe.{rgbeAt}
 use Rattle.light.specs.Light.{isBlack}
 use Rattle.survey.specs.Stops.{reached, digits, stopOf, stopsOf}
 

@@ -13,7 +13,7 @@ use Rattle.steps.specs.Loop.{pick}
 use Rattle.steps.proofs.Laws.Turns.{by-test}
 use Rattle.pixel.specs.declared.Rgbe.{Rgbe}
 use Rattle.pixel.proofs.Laws.Numbers.{either}
-use Rattle.reader.specs.Samples.{rgbeAt}
+use Rattle.pixel.specs.Rgbe.{rgbeAt}
 use Rattle.light.specs.Light.{lightOf, isBlack, isMasked, darker, brighter}
 use Rattle.survey.specs.Survey.{times, seen, seenTimes, Alike, surveyOf}
 use Rattle.survey.specs.declared.Totals.{Totals}

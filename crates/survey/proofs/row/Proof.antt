@@ -21,8 +21,8 @@ loop-holds c = (search needs, search needs, search needs, refl)
 alike-requires : tie.Need-alike-requires Inv-loop μ-loop
 alike-requires c κs = search needs
 
-pixel-at-requires : tie.Need-pixel-at-requires Inv-loop μ-loop
-pixel-at-requires c κs = search needs
+rgbe-at-requires : tie.Need-rgbe-at-requires Inv-loop μ-loop
+rgbe-at-requires c κs = search needs
 
 with-pixels-requires : tie.Need-with-pixels-requires Inv-loop μ-loop
 with-pixels-requires c κs = search needs
@@ -53,7 +53,7 @@ row-spec =
     μ-loop
     loop-holds
     alike-requires
-    pixel-at-requires
+    rgbe-at-requires
     with-pixels-requires
     mul-i
     add-i

@@ -3,7 +3,7 @@ use borrow.Author.Needs.{needs}
 use mathlib.Core.Path.{_≡_, refl}
 use mathlib.Core.Bool.{_||_}
 use Prim.Native.Nat.{_+_}
-use Rattle.frames.specs.Samples.{anyNear}
+use Rattle.frames.specs.Inner.{anyNear}
 use Rattle.frames.proofs.Laws.Near.{near-again, near-end}
 use Rattle.frames.proofs.samples.any_near.Statement.{statement}
 use Rattle.frames.proofs.samples.any_near.Tie as tie

@@ -18,8 +18,8 @@ abbrev μ-loop : tie.MeasureT-loop
 loop-holds : tie.Need-loop-holds Inv-loop μ-loop
 loop-holds c = (search needs, refl)
 
-pixel-at-requires : tie.Need-pixel-at-requires Inv-loop μ-loop
-pixel-at-requires c κs = search needs
+rgbe-at-requires : tie.Need-rgbe-at-requires Inv-loop μ-loop
+rgbe-at-requires c κs = search needs
 
 stop-of-requires : tie.Need-stop-of-requires Inv-loop μ-loop
 stop-of-requires c κs = search needs
@@ -61,7 +61,7 @@ row-spec =
     Inv-loop
     μ-loop
     loop-holds
-    pixel-at-requires
+    rgbe-at-requires
     stop-of-requires
     mul-wrapping-add-usize
     element-copy-out-wrapping-add-usize
