@@ -1,12 +1,13 @@
--- Fields: parts of a line, separated by one space.
+-- Fields: parts of a line, separated by one space, and those that are numbers.
 use Prim.Native.Nat.{ℕ, _+_}
+use mathlib.Core.Bool.{Bool, true, false, not}
 use mathlib.Core.List.{List, [], _∷_}
 use lib.ListN.{length, drop}
 use lib.Dec.{eqb, leb}
 use Rattle.steps.specs.Loop.{pick}
-use Rattle.fields.specs.Numerals.{numberOf}
-use Rattle.fields.specs.declared.text.Number.{Number}
-use Rattle.fields.specs.declared.text.Number.the-variants.{Is, Missing}
+use Rattle.words.specs.Sizes.{numberFrom}
+use Rattle.words.specs.declared.sizes.Size.{Size}
+use Rattle.words.specs.declared.sizes.Size.the-variants.{Number, NoNumber}
 use Rattle.fields.specs.declared.text.Step.{Step}
 use Rattle.fields.specs.declared.text.Step.the-variants.{Found, Nothing}
 use Rattle.fields.specs.declared.text.Pair.{Pair}
@@ -21,10 +22,20 @@ field (b ∷ bs) = pick (eqb b 32) [] (b ∷ field bs)
 abbrev pub fieldEnd : List ℕ → ℕ → ℕ
 fieldEnd line at = at + length (field (drop at line))
 
+-- no leading zero, and one digit or more
+abbrev pub isPlain : List ℕ → Bool
+isPlain [] = false
+isPlain (b ∷ []) = true
+isPlain (b ∷ c ∷ bs) = not (eqb b 48)
+
+-- a field as a number below 2^64, in decimal
+unfoldable pub numberOf : List ℕ → Size
+numberOf field = pick (isPlain field) (numberFrom 0 field) NoNumber
+
 -- a number, with the place after its field and the field's space
-abbrev pub stepOf : Number → ℕ → Step
-stepOf (Is n) next = Found n next
-stepOf Missing next = Nothing
+abbrev pub stepOf : Size → ℕ → Step
+stepOf (Number n) next = Found n next
+stepOf NoNumber next = Nothing
 
 -- the number in the field from `at` on; past the line's end there is no field
 unfoldable pub numberAt : List ℕ → ℕ → Step

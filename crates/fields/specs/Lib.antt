@@ -1,3 +1,2 @@
--- How a line is written: numbers and fields.
-pub mod Numerals
+-- How a line is written.
 pub mod Fields

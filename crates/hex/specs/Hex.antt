@@ -7,9 +7,9 @@ use lib.Dec.{eqb, ltb}
 use lib.Ieee.{Float, binary32, ofBits}
 use Rattle.steps.specs.Loop.{pick}
 use Rattle.steps.specs.Place.{spread}
-use Rattle.fields.specs.Numerals.{numeralFrom}
-use Rattle.fields.specs.declared.text.Number.{Number}
-use Rattle.fields.specs.declared.text.Number.the-variants.{Is, Missing}
+use Rattle.hex.specs.Digits.{numeralFrom}
+use Rattle.hex.specs.declared.Number.{Number}
+use Rattle.hex.specs.declared.Number.the-variants.{Is, Missing}
 
 -- `-`
 abbrev pub isDash : List ℕ → Bool
@@ -31,7 +31,7 @@ firstThen value Missing rest = []
 -- n values, so many digits to a value, up to the first whose digits are none; `value` says what a number stands for
 unfoldable pub valuesOf : {A : Type 0} → (ℕ → A) → ℕ → ℕ → List ℕ → List A
 valuesOf value digits zero field = []
-valuesOf value digits (suc n) field = firstThen value (numeralFrom 16 0 (take digits field)) (valuesOf value digits n (drop digits field))
+valuesOf value digits (suc n) field = firstThen value (numeralFrom 0 (take digits field)) (valuesOf value digits n (drop digits field))
 
 -- n values are asked for, and these are they up to the first that is none: if n fit, they are stored, and n is the answer where none is missing
 unfoldable pub stored : {A : Type 0} → ℕ → List A → List A → Number × List A

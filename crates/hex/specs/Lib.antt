@@ -1,2 +1,3 @@
 -- Values in hexadecimal, as a line ends with them.
+pub mod Digits
 pub mod Hex

@@ -1,11 +1,72 @@
 // The last field of a line: bytes or samples in hexadecimal.
-use fields::text;
-use fields::text::Number;
 ghost use mathlib.Core.Path.{_≡_};
-ghost use Prim.Native.Nat.{_<_};
+ghost use mathlib.Core.List.{_∷_, []};
+ghost use Prim.Native.Nat.{_≤_, _<_};
 ghost use lib.Ieee.{binary32, ofBits};
 ghost use lib.ListN.{drop};
+ghost use Rattle.hex.specs.Digits.{worth, numeralFrom};
 ghost use Rattle.hex.specs.Hex.{isDash, countOf, bytesRead, samplesRead};
+
+// A number that is written, or none.
+pub enum Number {
+    Is(usize),
+    Missing,
+}
+
+// The worth of a digit; 16 for a byte that is none.
+fn digit(b: u8) -> usize
+    ensures { λ r. ⌜ r ≡ worth b ⌝ }
+    ensures { λ r. ⌜ r ≤ 16 ⌝ }
+{
+    if b < 48 {
+        return 16;
+    }
+    if b <= 57 {
+        return steps::wide(b - 48);
+    }
+    if b < 97 {
+        return 16;
+    }
+    if b <= 102 {
+        return steps::wide(b - 87);
+    }
+    16
+}
+
+// The number n with one digit more.
+fn with_digit(n: usize, b: u8) -> Number
+    ensures { λ r. ⌜ r ≡ numeralFrom n (b ∷ []) ⌝ }
+{
+    let d = digit(b);
+    if 16 <= d {
+        return Number::Missing;
+    }
+    if (18446744073709551615 - d) / 16 < n {
+        return Number::Missing;
+    }
+    Number::Is(n * 16 + d)
+}
+
+// The number below 2^64 that digits stand for.
+fn numeral(digits: &[u8]) -> Number
+    ensures { λ r. ⌜ r ≡ numeralFrom 0 (now (digits .entry)) ⌝ }
+{
+    let mut n = 0;
+    let mut i = 0;
+    while i < digits.len() {
+        let longer = with_digit(n, digits[i]);
+        match longer {
+            Number::Is(m) => {
+                n = m;
+            }
+            Number::Missing => {
+                return Number::Missing;
+            }
+        }
+        i += 1;
+    }
+    Number::Is(n)
+}
 
 // Whether a field is `-`, which writes no value.
 fn is_dash(field: &[u8]) -> bool
@@ -46,7 +107,7 @@ fn bytes_of(field: &[u8], bytes: &mut [u8]) -> Number
     }
     let mut k = 0;
     while k < n {
-        let value = text::numeral(16, &field[2 * k..2 * k + 2]);
+        let value = numeral(&field[2 * k..2 * k + 2]);
         match value {
             Number::Is(b) => {
                 bytes[k] = b as u8;
@@ -82,7 +143,7 @@ fn samples_of(field: &[u8], samples: &mut [f32]) -> Number
     }
     let mut k = 0;
     while k < n {
-        let value = text::numeral(16, &field[8 * k..8 * k + 8]);
+        let value = numeral(&field[8 * k..8 * k + 8]);
         match value {
             Number::Is(bits) => {
                 samples[k] = sample_of(bits as u32);

@@ -26,8 +26,8 @@ fn with_digit(n: usize, x: u8) -> Size
     Size::Number(n * 10 + d)
 }
 
-// The number that digits stand for.
-fn number_of(digits: &[u8]) -> Size
+// The number below 2^64 that digits stand for.
+pub fn number_of(digits: &[u8]) -> Size
     ensures { λ r. ⌜ r ≡ numberFrom 0 (now (digits .entry)) ⌝ }
 {
     let mut n = 0;

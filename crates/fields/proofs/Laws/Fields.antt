@@ -10,10 +10,10 @@ use lib.ListN.{length, getD, take, drop, drop-of-length-le}
 use lib.Seq.{drop-cons}
 use lib.Dec.{eqb}
 use Rattle.steps.specs.Loop.{pick}
-use Rattle.fields.specs.Numerals.{numberOf}
-use Rattle.fields.specs.Fields.{field, fieldEnd, stepOf, numberAt, secondOf, firstOf, pairAt}
-use Rattle.fields.specs.declared.text.Number.{Number}
-use Rattle.fields.specs.declared.text.Number.the-variants.{Is, Missing}
+use Rattle.words.specs.Sizes.{numberFrom}
+use Rattle.fields.specs.Fields.{field, fieldEnd, numberOf, stepOf, numberAt, secondOf, firstOf, pairAt}
+use Rattle.words.specs.declared.sizes.Size.{Size}
+use Rattle.words.specs.declared.sizes.Size.the-variants.{Number, NoNumber}
 use Rattle.fields.specs.declared.text.Step.{Step}
 use Rattle.fields.specs.declared.text.Step.the-variants.{Found, Nothing}
 use Rattle.fields.specs.declared.text.Pair.the-variants.{Both, Fewer}
@@ -42,6 +42,31 @@ module _ (line : List ℕ) (p w : ℕ) (is : fieldEnd line p ≡ w) where
         let one : length (field (drop p line)) ≡ suc (length (field (drop (suc p) line))) = ap length (cut ∙ here) in
         rw add-one (omega (arith, is, one))
 
+-- ---- A field as a number
+
+pub number-empty : (field : List ℕ) → length field ≡ 0 → NoNumber ≡ numberOf field
+unfolding numberOf
+number-empty [] h = refl
+number-empty (b ∷ bs) h = absurd (let z : suc (length bs) ≡ 0 = h in omega arith)
+
+pub number-digit : (field : List ℕ) (s : Size) → length field ≡ 1 → s ≡ numberFrom 0 field → s ≡ numberOf field
+unfolding numberOf
+number-digit [] s h es = absurd (omega arith)
+number-digit (b ∷ []) s h es = es
+number-digit (b ∷ c ∷ bs) s h es = absurd (let z : suc (suc (length bs)) ≡ 1 = h in omega arith)
+
+pub number-zero : (field : List ℕ) → (length field ≡ 0 → ⊥) → (length field ≡ 1 → ⊥) → getD field 0 0 ≡ 48 → NoNumber ≡ numberOf field
+unfolding numberOf
+number-zero [] h k e = absurd (h refl)
+number-zero (b ∷ []) h k e = absurd (k refl)
+number-zero (b ∷ c ∷ bs) h k e = simp (eq-eqb b 48 e)
+
+pub number-plain : (field : List ℕ) (s : Size) → (length field ≡ 0 → ⊥) → (length field ≡ 1 → ⊥) → (getD field 0 0 ≡ 48 → ⊥) → s ≡ numberFrom 0 field → s ≡ numberOf field
+unfolding numberOf
+number-plain [] s h k e es = absurd (h refl)
+number-plain (b ∷ []) s h k e es = absurd (k refl)
+number-plain (b ∷ c ∷ bs) s h k e es = es ∙ simp (ne-eqb b 48 e)
+
 -- ---- The number in a field
 
 take-field : (s : List ℕ) → take (length (field s)) s ≡ field s
@@ -58,7 +83,7 @@ module _ (line : List ℕ) (at : ℕ) where
   unfolding numberAt
   at-past h = simp (lt-leb at (length line) h)
 
-  module _ (h : at ≤ length line) (end : ℕ) (e : end ≡ fieldEnd line at) (s : Number) (es : s ≡ numberOf (take (end - at) (drop at line))) where
+  module _ (h : at ≤ length line) (end : ℕ) (e : end ≡ fieldEnd line at) (s : Size) (es : s ≡ numberOf (take (end - at) (drop at line))) where
     part-is : take (end - at) (drop at line) ≡ field (drop at line)
     part-is =
         let n : end - at ≡ length (field (drop at line)) = omega (arith, e) in
@@ -68,11 +93,11 @@ module _ (line : List ℕ) (at : ℕ) where
     unfolding numberAt
     whole = simp (le-leb at (length line) h) (rw (← e, ← part-is, ← es))
 
-    pub at-number : (n : ℕ) → s ≡ Is n → Found n (end + 1) ≡ numberAt line at
-    at-number n en = sym (whole ∙ ap (λ (z : Number). stepOf z (end + 1)) en)
+    pub at-number : (n : ℕ) → s ≡ Number n → Found n (end + 1) ≡ numberAt line at
+    at-number n en = sym (whole ∙ ap (λ (z : Size). stepOf z (end + 1)) en)
 
-    pub at-none : s ≡ Missing → Nothing ≡ numberAt line at
-    at-none en = sym (whole ∙ ap (λ (z : Number). stepOf z (end + 1)) en)
+    pub at-none : s ≡ NoNumber → Nothing ≡ numberAt line at
+    at-none en = sym (whole ∙ ap (λ (z : Size). stepOf z (end + 1)) en)
 
   -- ---- Two numbers
   module _ (s : Step) (e : s ≡ numberAt line at) where

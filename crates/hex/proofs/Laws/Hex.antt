@@ -13,11 +13,11 @@ use lib.ListN.{length, getD, set, take, drop, length-take, length-drop, drop-of-
 use lib.Seq.{take-all, drop-drop}
 use Rattle.steps.specs.Loop.{pick}
 use Rattle.steps.specs.Place.{spread}
-use Rattle.fields.specs.Numerals.{worth, allDigits, valueFrom, numeralFrom}
+use Rattle.hex.specs.Digits.{worth, allDigits, valueFrom, numeralFrom}
 use Rattle.hex.specs.Hex.{isDash, countOf, firstThen, valuesOf, stored, readBy, bytesRead, samplesRead}
 use Rattle.steps.proofs.Laws.Place.{length-spread}
-use Rattle.fields.specs.declared.text.Number.{Number}
-use Rattle.fields.specs.declared.text.Number.the-variants.{Is, Missing}
+use Rattle.hex.specs.declared.Number.{Number}
+use Rattle.hex.specs.declared.Number.the-variants.{Is, Missing}
 
 -- ---- How many values
 
@@ -58,29 +58,29 @@ step n w p v h l =
     let more : n * 16 + w + 1 ≤ (n + 1) * 16 = omega arith in
     lt-of-lt-of-le l (le-trans (mul-le-mul-right p more) (le-of-eq (mul-assoc (n + 1) 16 p)))
 
-bound : (n : ℕ) (bs : List ℕ) → allDigits 16 bs ≡ true → valueFrom 16 n bs < (n + 1) * 16 ^ length bs
+bound : (n : ℕ) (bs : List ℕ) → allDigits bs ≡ true → valueFrom n bs < (n + 1) * 16 ^ length bs
 unfolding allDigits valueFrom
 bound n [] h = omega arith
 bound n (b ∷ bs) h = rw pow-succ' (by (ltb (worth b) 16) refl h (bound (n * 16 + worth b) bs))
   where
-    by : (t : Bool) → ltb (worth b) 16 ≡ t → t && allDigits 16 bs ≡ true → (allDigits 16 bs ≡ true → valueFrom 16 (n * 16 + worth b) bs < (n * 16 + worth b + 1) * 16 ^ length bs) → valueFrom 16 (n * 16 + worth b) bs < (n + 1) * (16 * 16 ^ length bs)
-    by true e h rest = step n (worth b) (16 ^ length bs) (valueFrom 16 (n * 16 + worth b) bs) (ltb-true (worth b) 16 e) (rest h)
+    by : (t : Bool) → ltb (worth b) 16 ≡ t → t && allDigits bs ≡ true → (allDigits bs ≡ true → valueFrom (n * 16 + worth b) bs < (n * 16 + worth b + 1) * 16 ^ length bs) → valueFrom (n * 16 + worth b) bs < (n + 1) * (16 * 16 ^ length bs)
+    by true e h rest = step n (worth b) (16 ^ length bs) (valueFrom (n * 16 + worth b) bs) (ltb-true (worth b) 16 e) (rest h)
     by false e h rest = absurd (false≢true h)
 
 -- a value of so many digits
-value-bound : (bs : List ℕ) (b : ℕ) → numeralFrom 16 0 bs ≡ Is b → b < 16 ^ length bs
+value-bound : (bs : List ℕ) (b : ℕ) → numeralFrom 0 bs ≡ Is b → b < 16 ^ length bs
 unfolding numeralFrom
-value-bound bs b e = by (allDigits 16 bs) (ltb (valueFrom 16 0 bs) (2 ^ 64)) refl e
+value-bound bs b e = by (allDigits bs) (ltb (valueFrom 0 bs) (2 ^ 64)) refl e
   where
-    by : (t u : Bool) → allDigits 16 bs ≡ t → pick (t && u) (Is (valueFrom 16 0 bs)) Missing ≡ Is b → b < 16 ^ length bs
-    by true true et h = let is : valueFrom 16 0 bs ≡ b = cc in let below = bound 0 bs et in omega arith
+    by : (t u : Bool) → allDigits bs ≡ t → pick (t && u) (Is (valueFrom 0 bs)) Missing ≡ Is b → b < 16 ^ length bs
+    by true true et h = let is : valueFrom 0 bs ≡ b = cc in let below = bound 0 bs et in omega arith
     by true false et h = absurd (let y : _≡_ {A = ℕ} 0 1 = cc in omega arith)
     by false u et h = absurd (let y : _≡_ {A = ℕ} 0 1 = cc in omega arith)
 
 -- the value of the digits that the code takes for the k-th
-module _ (digits : ℕ) (field : List ℕ) (k : ℕ) (r : Number) (e : r ≡ numeralFrom 16 0 (take (digits * k + digits - digits * k) (drop (digits * k) field))) where
-  value-is : numeralFrom 16 0 (take digits (drop (digits * k) field)) ≡ r
-  value-is = ap (λ (n : ℕ). numeralFrom 16 0 (take n (drop (digits * k) field))) (sym (add-sub-cancel-left (digits * k) digits)) ∙ sym e
+module _ (digits : ℕ) (field : List ℕ) (k : ℕ) (r : Number) (e : r ≡ numeralFrom 0 (take (digits * k + digits - digits * k) (drop (digits * k) field))) where
+  value-is : numeralFrom 0 (take digits (drop (digits * k) field)) ≡ r
+  value-is = ap (λ (n : ℕ). numeralFrom 0 (take n (drop (digits * k) field))) (sym (add-sub-cancel-left (digits * k) digits)) ∙ sym e
 
   value-small : (b : ℕ) → r ≡ Is b → b < 16 ^ digits
   value-small b is =
@@ -89,10 +89,10 @@ module _ (digits : ℕ) (field : List ℕ) (k : ℕ) (r : Number) (e : r ≡ num
       lt-of-lt-of-le (value-bound part b (value-is ∙ is)) (pow-le-pow-right {n = 16} (omega arith) {i = length part} {j = digits} short)
 
 module _ (field : List ℕ) (k : ℕ) (r : Number) where
-  pub byte-small : r ≡ numeralFrom 16 0 (take (2 * k + 2 - 2 * k) (drop (2 * k) field)) → (b : ℕ) → r ≡ Is b → b < 256
+  pub byte-small : r ≡ numeralFrom 0 (take (2 * k + 2 - 2 * k) (drop (2 * k) field)) → (b : ℕ) → r ≡ Is b → b < 256
   byte-small e b is = value-small 2 field k r e b is
 
-  pub pattern-small : r ≡ numeralFrom 16 0 (take (8 * k + 8 - 8 * k) (drop (8 * k) field)) → (b : ℕ) → r ≡ Is b → b < 4294967296
+  pub pattern-small : r ≡ numeralFrom 0 (take (8 * k + 8 - 8 * k) (drop (8 * k) field)) → (b : ℕ) → r ≡ Is b → b < 4294967296
   pattern-small e b is = value-small 8 field k r e b is
 
 -- ---- Value after value
@@ -123,7 +123,7 @@ module _ {A : Type 0} (value : ℕ → A) (digits : ℕ) (field : List ℕ) wher
 
   -- the next value, by its digits
   module _ (n : ℕ) (lent lent₀ : List A) (k : ℕ) (h : k < n) (R : Reads value digits field n lent₀ k lent) (r : Number)
-      (e : r ≡ numeralFrom 16 0 (take (digits * k + digits - digits * k) (drop (digits * k) field))) where
+      (e : r ≡ numeralFrom 0 (take (digits * k + digits - digits * k) (drop (digits * k) field))) where
     next : leftOf value digits field n k ≡ firstThen value r (leftOf value digits field n (k + 1))
     unfolding valuesOf
     next =

@@ -1,14 +1,14 @@
 -- `fields::text::number_of` meets its contract: each `return` is a case of it.
 use borrow.Author.Needs.{needs}
-use Rattle.fields.proofs.Laws.Numerals.{number-empty, number-digit, number-zero, number-plain}
+use Rattle.fields.proofs.Laws.Fields.{number-empty, number-digit, number-zero, number-plain}
 use Rattle.fields.proofs.text.number_of.Statement.{statement}
 use Rattle.fields.proofs.text.number_of.Tie as tie
 
 returns : tie.Need-returns
 returns c = search number-empty
 
-numeral-requires : tie.Need-numeral-requires
-numeral-requires c κs = search needs
+number-of-requires : tie.Need-number-of-requires
+number-of-requires c κs = search needs
 
 returns-2 : tie.Need-returns-2
 returns-2 c = search number-digit
@@ -19,8 +19,8 @@ shared-slice-read-if3 c = search needs
 returns-3 : tie.Need-returns-3
 returns-3 c = search number-zero
 
-numeral-requires-2 : tie.Need-numeral-requires-2
-numeral-requires-2 c κs = search needs
+number-of-requires-2 : tie.Need-number-of-requires-2
+number-of-requires-2 c κs = search needs
 
 returns-4 : tie.Need-returns-4
 returns-4 c = search number-plain
@@ -30,9 +30,9 @@ number-of-spec =
     tie.close
     (tie.spec
     returns
-    numeral-requires
+    number-of-requires
     returns-2
     shared-slice-read-if3
     returns-3
-    numeral-requires-2
+    number-of-requires-2
     returns-4)

@@ -1,7 +1,6 @@
--- `header::fields::axes_of` meets its contract: each `return` is a case of `axesOf`.
+-- `words::fields::axes_of` meets its contract: each `return` is a case of `axesOf`.
 use borrow.Author.Needs.{needs}
 use Rattle.words.proofs.Laws.Fields.{axes-height, axes-no-width, axes-width, axes-no-height, axes-none}
-use borrow.Author.Needs.{needs}
 use Rattle.words.proofs.fields.axes_of.Statement.{statement}
 use Rattle.words.proofs.fields.axes_of.Tie as tie
 

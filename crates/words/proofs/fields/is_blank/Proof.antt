@@ -1,4 +1,4 @@
--- `header::fields::is_blank` meets its contract: each `return` is a case of `isBlank`.
+-- `words::fields::is_blank` meets its contract: each `return` is a case of `isBlank`.
 use Rattle.words.proofs.Laws.Fields.{blank-space, blank-low, blank-by}
 use Rattle.words.proofs.fields.is_blank.Statement.{statement}
 use Rattle.words.proofs.fields.is_blank.Tie as tie

@@ -1,5 +1,4 @@
--- `header::fields::trim` meets its contract: the start is trimmed, and then the end.
-use borrow.Author.Needs.{needs}
+-- `words::fields::trim` meets its contract: the start is trimmed, and then the end.
 use borrow.Author.Needs.{needs}
 use Rattle.words.proofs.fields.trim.Statement.{statement}
 use Rattle.words.proofs.fields.trim.Tie as tie

@@ -1,4 +1,4 @@
--- `header::fields::trim_end` meets its contract. The invariant: all from `end` on is white space.
+-- `words::fields::trim_end` meets its contract. The invariant: all from `end` on is white space.
 use borrow.Author.Needs.{needs}
 use mathlib.Core.Path.{_≡_, ap}
 use Prim.Native.Nat.{_≤_}

@@ -1,4 +1,4 @@
--- `header::fields::trim_start` meets its contract. The invariant: all before `at` is white space.
+-- `words::fields::trim_start` meets its contract. The invariant: all before `at` is white space.
 use borrow.Author.Needs.{needs}
 use mathlib.Core.Path.{_≡_, refl}
 use Prim.Native.Nat.{_-_, _≤_}

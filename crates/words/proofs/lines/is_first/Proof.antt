@@ -1,7 +1,6 @@
--- `header::lines::is_first` meets its contract: the line is held to both.
+-- `words::lines::is_first` meets its contract: the line is held to both.
 use borrow.Author.Needs.{needs}
 use Rattle.words.proofs.Laws.Lines.{first-radiance, first-rgbe}
-use borrow.Author.Needs.{needs}
 use Rattle.words.proofs.lines.is_first.Statement.{statement}
 use Rattle.words.proofs.lines.is_first.Tie as tie
 

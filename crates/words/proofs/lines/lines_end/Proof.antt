@@ -1,4 +1,4 @@
--- `header::lines::lines_end` meets its contract. The invariant: from here the definition finds the same place.
+-- `words::lines::lines_end` meets its contract. The invariant: from here the definition finds the same place.
 use borrow.Author.Needs.{needs}
 use Prim.Native.Nat.{_-_, _≤_}
 use lib.ListN.{length}

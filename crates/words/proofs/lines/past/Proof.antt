@@ -1,4 +1,4 @@
--- `header::lines::past` meets its contract. The invariant: from here the same place is found.
+-- `words::lines::past` meets its contract. The invariant: from here the same place is found.
 use borrow.Author.Needs.{needs}
 use mathlib.Core.Path.{_≡_, refl}
 use Prim.Native.Nat.{_-_, _≤_}

@@ -1,4 +1,4 @@
--- `header::lines::same` meets its contract. The invariant: what is left is the same exactly if the whole is.
+-- `words::lines::same` meets its contract. The invariant: what is left is the same exactly if the whole is.
 use borrow.Author.Needs.{needs}
 use mathlib.Core.Path.{_≡_, refl}
 use Prim.Native.Nat.{_-_, _≤_}

@@ -1,4 +1,4 @@
--- `header::sizes::number_of` meets its contract. The invariant: what is left of the digits, after n, gives the same number.
+-- `words::sizes::number_of` meets its contract. The invariant: what is left of the digits, after n, gives the same number.
 use borrow.Author.Needs.{needs}
 use mathlib.Core.Path.{_≡_, refl}
 use Prim.Native.Nat.{_-_, _^_, _≤_, _<_}

@@ -1,7 +1,6 @@
--- `header::sizes::size_of` meets its contract: one digit or more, or no number.
+-- `words::sizes::size_of` meets its contract: one digit or more, or no number.
 use borrow.Author.Needs.{needs}
 use Rattle.words.proofs.Laws.Sizes.{size-none, size-some}
-use borrow.Author.Needs.{needs}
 use Rattle.words.proofs.sizes.size_of.Statement.{statement}
 use Rattle.words.proofs.sizes.size_of.Tie as tie
 

@@ -1,7 +1,6 @@
--- `header::sizes::unsigned` meets its contract: each `return` is a case of `unsigned`.
+-- `words::sizes::unsigned` meets its contract: each `return` is a case of `unsigned`.
 use borrow.Author.Needs.{needs}
 use Rattle.words.proofs.Laws.Sizes.{unsigned-none, unsigned-plain, unsigned-plus}
-use borrow.Author.Needs.{needs}
 use Rattle.words.proofs.sizes.unsigned.Statement.{statement}
 use Rattle.words.proofs.sizes.unsigned.Tie as tie
 

@@ -1,7 +1,6 @@
--- `header::sizes::with_digit` meets its contract: no digit, too large, or one digit longer.
+-- `words::sizes::with_digit` meets its contract: no digit, too large, or one digit longer.
 use borrow.Author.Needs.{needs}
 use Rattle.words.proofs.Laws.Sizes.{digit-low, digit-high, digit-over, digit-fits}
-use borrow.Author.Needs.{needs}
 use Rattle.words.proofs.sizes.with_digit.Statement.{statement}
 use Rattle.words.proofs.sizes.with_digit.Tie as tie
 

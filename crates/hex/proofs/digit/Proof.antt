@@ -1,8 +1,8 @@
--- `fields::text::digit` meets its contract: each range of bytes by itself.
+-- `hex::digit` meets its contract: each range of bytes by itself.
 use borrow.Author.Needs.{needs}
-use Rattle.fields.proofs.Laws.Numerals.{worth-low, worth-decimal, worth-between, worth-letter, worth-high}
-use Rattle.fields.proofs.text.digit.Statement.{statement}
-use Rattle.fields.proofs.text.digit.Tie as tie
+use Rattle.hex.proofs.Laws.Digits.{worth-low, worth-decimal, worth-between, worth-letter, worth-high}
+use Rattle.hex.proofs.digit.Statement.{statement}
+use Rattle.hex.proofs.digit.Tie as tie
 
 returns : tie.Need-returns
 returns c = (search worth-low, search needs)

@@ -1,18 +1,18 @@
--- `fields::text::numeral` meets its contract. The invariant: what is left of the digits, after n, gives the same number.
+-- `hex::numeral` meets its contract. The invariant: what is left of the digits, after n, gives the same number.
 use borrow.Author.Needs.{needs}
 use mathlib.Core.Path.{_≡_, refl}
 use Prim.Native.Nat.{_-_, _^_, _≤_, _<_}
 use lib.ListN.{length, drop}
-use Rattle.fields.specs.Numerals.{numeralFrom}
-use Rattle.fields.proofs.Laws.Numerals.{numeral-end, numeral-more, numeral-none}
-use Rattle.fields.proofs.text.numeral.Statement.{statement}
-use Rattle.fields.proofs.text.numeral.Tie as tie
+use Rattle.hex.specs.Digits.{numeralFrom}
+use Rattle.hex.proofs.Laws.Digits.{numeral-end, numeral-more, numeral-none}
+use Rattle.hex.proofs.numeral.Statement.{statement}
+use Rattle.hex.proofs.numeral.Tie as tie
 
 abbrev Inv-loop : tie.InvT-loop
-Inv-loop base digits n₀ i₀ n i = (i ≤ length digits) × (n < 2 ^ 64) × (numeralFrom base n (drop i digits) ≡ numeralFrom base 0 digits)
+Inv-loop digits n₀ i₀ n i = (i ≤ length digits) × (n < 2 ^ 64) × (numeralFrom n (drop i digits) ≡ numeralFrom 0 digits)
 
 abbrev μ-loop : tie.MeasureT-loop
-μ-loop base digits n₀ i₀ n i = length digits - i
+μ-loop digits n₀ i₀ n i = length digits - i
 
 loop-holds : tie.Need-loop-holds Inv-loop μ-loop
 loop-holds c = (search needs, search needs, refl)
