@@ -1,2 +1,3 @@
--- The law of the definition in `specs/`.
+-- The laws that proofs use: of the room that a line asks for, and of bit patterns.
 pub mod Room
+pub mod Pattern

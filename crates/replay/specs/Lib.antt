@@ -1,2 +1,2 @@
--- What is asked of a line before it is answered.
-pub mod Room
+-- Nothing has to be believed of this program but that it is safe and ends.
+pub mod Inner

@@ -1,6 +1,7 @@
 // One line, answered.
 use crate::names;
 use crate::names::Name;
+use crate::print;
 use crate::reads;
 use crate::writes;
 use fields::text;

@@ -1,5 +1,6 @@
 // Standard input, cut into lines.
 use crate::answer;
+use crate::print;
 use libc::STDIN_FILENO;
 ghost use Prim.Native.Nat.{_≤_};
 ghost use lib.ListN.{length};

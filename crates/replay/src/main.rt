@@ -2,6 +2,7 @@
 mod answer;
 mod lines;
 mod names;
+mod print;
 mod reads;
 mod writes;
 

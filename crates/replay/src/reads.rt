@@ -1,10 +1,11 @@
 // The answers of the reader.
+use crate::print;
 use fields::lent;
 use fields::text;
-use fields::text::Number;
 use fields::text::Pair;
 use header::Head;
 use header::HeadAnswer;
+use hex::Number;
 use reader::ReadAnswer;
 ghost use Prim.Native.Nat.{_≤_};
 

@@ -1,12 +1,13 @@
 // The answers of the writer.
+use crate::print;
 use fields::lent;
 use fields::text;
-use fields::text::Number;
 use fields::text::Step;
+use hex::Number;
 use steps::amount::Amount;
 use writer::WriteAnswer;
 ghost use Prim.Native.Nat.{_≤_};
-ghost use Rattle.replay.specs.Room.{Within};
+ghost use Rattle.replay.specs.Inner.{Within};
 
 // A number, or `none`.
 fn put_amount(page: &mut [u8; 65536], put: usize, amount: Amount) -> usize

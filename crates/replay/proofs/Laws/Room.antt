@@ -1,10 +1,10 @@
--- The law of `specs/Room.antt`.
+-- The room that a line asks for is there.
 use Prim.Native.Nat.{ℕ, _≤_}
 use mathlib.Core.Path.{_≡_}
 use native.Mathlib.Omega.{arith}
 use Rattle.fields.specs.declared.text.Step.{Step}
 use Rattle.fields.specs.declared.text.Step.the-variants.{Found, Nothing}
-use Rattle.replay.specs.Room.{Within}
+use Rattle.replay.specs.Inner.{Within}
 
 pub room-fits : (most : ℕ) (s : Step) (n next : ℕ) → Within most s → s ≡ Found n next → n ≤ most
 room-fits most (Found m p) n next h e = let is : m ≡ n = cc in omega arith

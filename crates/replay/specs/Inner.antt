@@ -1,4 +1,4 @@
--- The room that a line asks for.
+-- What only the contracts of inner functions cite.
 use Prim.Native.Nat.{ℕ, _≤_}
 use Rattle.fields.specs.declared.text.Step.{Step}
 use Rattle.fields.specs.declared.text.Step.the-variants.{Found, Nothing}

@@ -1,8 +1,8 @@
--- `print::flush` is safe and ends.
+-- `replay::print::flush` is safe and ends.
 use borrow.Author.Needs.{needs}
 use Rattle.fields.proofs.Laws.Filled.{front}
-use Rattle.print.proofs.flush.Statement.{statement}
-use Rattle.print.proofs.flush.Tie as tie
+use Rattle.replay.proofs.print.flush.Statement.{statement}
+use Rattle.replay.proofs.print.flush.Tie as tie
 
 slice-aggregate-write-all : tie.Need-slice-aggregate-write-all
 slice-aggregate-write-all c = search front

@@ -1,9 +1,9 @@
--- `print::text` is safe and ends. The invariant: the page is not overfull.
+-- `replay::print::text` is safe and ends. The invariant: the page is not overfull.
 use borrow.Author.Needs.{needs}
 use Prim.Native.Nat.{_-_, _≤_}
 use lib.ListN.{length}
-use Rattle.print.proofs.text.Statement.{statement}
-use Rattle.print.proofs.text.Tie as tie
+use Rattle.replay.proofs.print.text.Statement.{statement}
+use Rattle.replay.proofs.print.text.Tie as tie
 
 abbrev Inv-loop : tie.InvT-loop
 Inv-loop page₀ put bytes p₀ i₀ page p i = (i ≤ length bytes) × (p ≤ 65536)

@@ -1,8 +1,8 @@
--- `print::pattern` meets its contract: what equals itself is a number.
+-- `replay::print::pattern` meets its contract: what equals itself is a number.
 use borrow.Author.Needs.{needs}
-use Rattle.print.proofs.Laws.Pattern.{self-number, no-pattern}
-use Rattle.print.proofs.pattern.Statement.{statement}
-use Rattle.print.proofs.pattern.Tie as tie
+use Rattle.replay.proofs.Laws.Pattern.{self-number, no-pattern}
+use Rattle.replay.proofs.print.pattern.Statement.{statement}
+use Rattle.replay.proofs.print.pattern.Tie as tie
 
 float-to-bits-result : tie.Need-float-to-bits-result
 float-to-bits-result c = search self-number

@@ -7,14 +7,14 @@ ghost use lib.Ieee.{binary32, eq, toBits};
 ghost use lib.ListN.{length};
 
 // Writes out the first `put` bytes of the page.
-pub fn flush(page: &[u8], put: usize)
+pub(crate) fn flush(page: &[u8], put: usize)
     requires { ⌜ put ≤ length (now page) ⌝ }
 {
     io::write_all(STDOUT_FILENO, &page[..put]);
 }
 
 // One byte more. Like all that follow, it answers how many bytes the page then has.
-pub fn byte(page: &mut [u8; 65536], put: usize, b: u8) -> usize
+pub(crate) fn byte(page: &mut [u8; 65536], put: usize, b: u8) -> usize
     requires { ⌜ put ≤ 65536 ⌝ }
     ensures { λ r. ⌜ r ≤ 65536 ⌝ }
 {
@@ -28,7 +28,7 @@ pub fn byte(page: &mut [u8; 65536], put: usize, b: u8) -> usize
 }
 
 // The bytes of a text.
-pub fn text(page: &mut [u8; 65536], put: usize, bytes: &[u8]) -> usize
+pub(crate) fn text(page: &mut [u8; 65536], put: usize, bytes: &[u8]) -> usize
     requires { ⌜ put ≤ 65536 ⌝ }
     ensures { λ r. ⌜ r ≤ 65536 ⌝ }
 {
@@ -42,7 +42,7 @@ pub fn text(page: &mut [u8; 65536], put: usize, bytes: &[u8]) -> usize
 }
 
 // A number in decimal.
-pub fn decimal(page: &mut [u8; 65536], put: usize, n: usize) -> usize
+pub(crate) fn decimal(page: &mut [u8; 65536], put: usize, n: usize) -> usize
     requires { ⌜ put ≤ 65536 ⌝ }
     ensures { λ r. ⌜ r ≤ 65536 ⌝ }
 {
@@ -52,7 +52,7 @@ pub fn decimal(page: &mut [u8; 65536], put: usize, n: usize) -> usize
 }
 
 // A space and a number.
-pub fn next(page: &mut [u8; 65536], put: usize, n: usize) -> usize
+pub(crate) fn next(page: &mut [u8; 65536], put: usize, n: usize) -> usize
     requires { ⌜ put ≤ 65536 ⌝ }
     ensures { λ r. ⌜ r ≤ 65536 ⌝ }
 {
@@ -77,7 +77,7 @@ fn two(page: &mut [u8; 65536], put: usize, b: u8) -> usize
 }
 
 // A space and a byte string.
-pub fn bytes(page: &mut [u8; 65536], put: usize, values: &[u8]) -> usize
+pub(crate) fn bytes(page: &mut [u8; 65536], put: usize, values: &[u8]) -> usize
     requires { ⌜ put ≤ 65536 ⌝ }
     ensures { λ r. ⌜ r ≤ 65536 ⌝ }
 {
@@ -113,7 +113,7 @@ fn eight(page: &mut [u8; 65536], put: usize, x: f32) -> usize
 }
 
 // A space and a list of samples.
-pub fn samples(page: &mut [u8; 65536], put: usize, values: &[f32]) -> usize
+pub(crate) fn samples(page: &mut [u8; 65536], put: usize, values: &[f32]) -> usize
     requires { ⌜ put ≤ 65536 ⌝ }
     ensures { λ r. ⌜ r ≤ 65536 ⌝ }
 {
@@ -130,7 +130,7 @@ pub fn samples(page: &mut [u8; 65536], put: usize, values: &[f32]) -> usize
 }
 
 // The answer to a line that is of no form, or asks for more than the program holds.
-pub fn unknown(page: &mut [u8; 65536], put: usize) -> usize
+pub(crate) fn unknown(page: &mut [u8; 65536], put: usize) -> usize
     requires { ⌜ put ≤ 65536 ⌝ }
     ensures { λ r. ⌜ r ≤ 65536 ⌝ }
 {
@@ -138,7 +138,7 @@ pub fn unknown(page: &mut [u8; 65536], put: usize) -> usize
 }
 
 // The number of a refusal and its place.
-pub fn refusal(page: &mut [u8; 65536], put: usize, number: u8, place: usize) -> usize
+pub(crate) fn refusal(page: &mut [u8; 65536], put: usize, number: u8, place: usize) -> usize
     requires { ⌜ put ≤ 65536 ⌝ }
     ensures { λ r. ⌜ r ≤ 65536 ⌝ }
 {

@@ -1,9 +1,9 @@
--- `print::bytes` is safe and ends. The invariant: the page is not overfull.
+-- `replay::print::bytes` is safe and ends. The invariant: the page is not overfull.
 use borrow.Author.Needs.{needs}
 use Prim.Native.Nat.{_-_, _≤_}
 use lib.ListN.{length}
-use Rattle.print.proofs.bytes.Statement.{statement}
-use Rattle.print.proofs.bytes.Tie as tie
+use Rattle.replay.proofs.print.bytes.Statement.{statement}
+use Rattle.replay.proofs.print.bytes.Tie as tie
 
 abbrev Inv-loop : tie.InvT-loop
 Inv-loop page₀ put values p₀ i₀ page p i = (i ≤ length values) × (p ≤ 65536)

@@ -1,2 +1,0 @@
--- The law of bit patterns.
-pub mod Pattern

@@ -1,2 +1,0 @@
--- `Laws` has what the proofs use.
-pub mod Laws
