@@ -1,6 +1,6 @@
 -- Numbers in hexadecimal, with lowercase digits.
-use Prim.Native.Nat.{ℕ, _+_, _-_, _*_, _^_}
-use mathlib.Core.Bool.{Bool, true, _&&_}
+use Prim.Native.Nat.{ℕ, _+_, _-_, _*_}
+use mathlib.Core.Bool.{true, false, _&&_}
 use mathlib.Core.List.{List, [], _∷_}
 use lib.Dec.{leb, ltb}
 use Rattle.steps.specs.Loop.{pick}
@@ -11,16 +11,7 @@ use Rattle.hex.specs.declared.Number.the-variants.{Is, Missing}
 unfoldable pub worth : ℕ → ℕ
 worth b = pick (leb 48 b && leb b 57) (b - 48) (pick (leb 97 b && leb b 102) (b - 87) 16)
 
--- every byte is a digit
-unfoldable pub allDigits : List ℕ → Bool
-allDigits [] = true
-allDigits (b ∷ bs) = ltb (worth b) 16 && allDigits bs
-
--- the number that digits stand for, where those before them stand for n
-unfoldable pub valueFrom : ℕ → List ℕ → ℕ
-valueFrom n [] = n
-valueFrom n (b ∷ bs) = valueFrom (n * 16 + worth b) bs
-
--- digits, after those that stand for n, of a number below 2^64
+-- the number that digits stand for, where those before them stand for n; none where a byte is no digit
 unfoldable pub numeralFrom : ℕ → List ℕ → Number
-numeralFrom n bs = pick (allDigits bs && ltb (valueFrom n bs) (2 ^ 64)) (Is (valueFrom n bs)) Missing
+numeralFrom n [] = Is n
+numeralFrom n (b ∷ bs) = elim (ltb (worth b) 16) [ true ↦ numeralFrom (n * 16 + worth b) bs | false ↦ Missing ]

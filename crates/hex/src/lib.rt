@@ -1,9 +1,8 @@
 // The last field of a line: bytes or samples in hexadecimal.
 ghost use mathlib.Core.Path.{_≡_};
-ghost use mathlib.Core.List.{_∷_, []};
 ghost use Prim.Native.Nat.{_≤_, _<_};
 ghost use lib.Ieee.{binary32, ofBits};
-ghost use lib.ListN.{drop};
+ghost use lib.ListN.{length, drop};
 ghost use Rattle.hex.specs.Digits.{worth, numeralFrom};
 ghost use Rattle.hex.specs.Hex.{isDash, countOf, bytesRead, samplesRead};
 
@@ -33,36 +32,19 @@ fn digit(b: u8) -> usize
     16
 }
 
-// The number n with one digit more.
-fn with_digit(n: usize, b: u8) -> Number
-    ensures { λ r. ⌜ r ≡ numeralFrom n (b ∷ []) ⌝ }
-{
-    let d = digit(b);
-    if 16 <= d {
-        return Number::Missing;
-    }
-    if (18446744073709551615 - d) / 16 < n {
-        return Number::Missing;
-    }
-    Number::Is(n * 16 + d)
-}
-
-// The number below 2^64 that digits stand for.
+// The number that at most 8 digits stand for.
 fn numeral(digits: &[u8]) -> Number
+    requires { ⌜ length (now digits) ≤ 8 ⌝ }
     ensures { λ r. ⌜ r ≡ numeralFrom 0 (now (digits .entry)) ⌝ }
 {
     let mut n = 0;
     let mut i = 0;
     while i < digits.len() {
-        let longer = with_digit(n, digits[i]);
-        match longer {
-            Number::Is(m) => {
-                n = m;
-            }
-            Number::Missing => {
-                return Number::Missing;
-            }
+        let d = digit(digits[i]);
+        if 16 <= d {
+            return Number::Missing;
         }
+        n = n * 16 + d;
         i += 1;
     }
     Number::Is(n)

@@ -5,7 +5,7 @@ use Prim.Native.Nat.{ℕ, _+_, _*_, _^_, _≤_}
 use lib.Dec.{eqb}
 use Rattle.steps.specs.Loop.{pick}
 
--- ---- 'The document value is taken here as m·2^(E-136), and 0 if E is 0.'
+-- ---- RULES 4.14: the document's value is taken as m·2^(E-136), and as 0 where E is 0
 
 -- what a mantissa of 1 is worth by the document: 2^(E-136) is 2^(E+13) times 2^-149
 unfoldable pub docScale : ℕ → ℕ
@@ -15,6 +15,6 @@ docScale e = pick (eqb e 0) 0 (2 ^ (e + 13))
 unfoldable pub docUnits : ℕ → ℕ → ℕ
 docUnits m e = m * docScale e
 
--- 'For every m the two agree at E = 0 and at E from 97 to 159': those exponent bytes
+-- the exponent bytes at which it is the sample: 0, and 97 to 159
 abbrev pub Alike : ℕ → Type 0
 Alike e = (e ≡ 0) ⊎ ((97 ≤ e) × (e ≤ 159))

@@ -1,4 +1,4 @@
--- Demand 3 at one pixel, over whole numbers of 2^-149. The whole number `mag` of a sample that is finite and not negative is its value (`plain-exact`).
+-- RULES 8.4 at one pixel, over whole numbers of 2^-149. The whole number `mag` of a sample that is finite and not negative is its value (`plain-exact`).
 use mathlib.Core.Path.{_≡_}
 use mathlib.Core.Logic.{_⊎_}
 use Prim.Native.Nat.{ℕ, _+_, _-_, _^_, _≤_, _<_}
@@ -8,31 +8,31 @@ use Rattle.pixel.specs.declared.Pixel.{Pixel}
 use Rattle.pixel.specs.Units.{mag, plain, ofUnits}
 use Rattle.pixel.specs.Rgbe.{peak}
 
--- 'finite', and not 'negative'
+-- all samples are finite, and none is negative
 pub record Numbers (p : Pixel) : Type 0 where
   pub r : T (plain (p .r))
   pub g : T (plain (p .g))
   pub b : T (plain (p .b))
 
--- '0 or from 2^-32 to below 2^31': 2^117 and 2^180 times 2^-149
+-- 0, or from 2^-32 to below 2^31: 2^117 and 2^180 times 2^-149
 abbrev pub Between : ℕ → Type 0
 Between v = (v ≡ 0) ⊎ ((2 ^ 117 ≤ v) × (v < 2 ^ 180))
 
--- 'all samples are finite, none is negative and each pixel's largest is 0 or from 2^-32 to below 2^31', of one pixel
+-- both, of one pixel
 pub record InRange (p : Pixel) : Type 0 where
   pub numbers : Numbers p
   pub largest : Between (peak p)
 
--- 'the pixel's largest lies from 2^(e-1) to below 2^e': n is e + 149
+-- the pixel's largest lies from 2^(e-1) to below 2^e: n is e + 149
 pub record Lies (p : Pixel) (n : ℕ) : Type 0 where
   pub from : 2 ^ (n - 1) ≤ peak p
   pub below : peak p < 2 ^ n
 
--- 'A step is 2^(e-8)'
+-- a step is 2^(e-8)
 abbrev pub step : ℕ → ℕ
 step n = 2 ^ (n - 8)
 
--- the sample x 'comes back', as y, a number again, 'at most its value and less than one step below it'
+-- the sample x comes back as y: a number again, at most its value and less than one step below it
 pub record Kept (step : ℕ) (x y : Float) : Type 0 where
   pub number : T (plain y)
   pub at-most : mag y ≤ mag x
@@ -44,6 +44,6 @@ pub record KeptAll (step : ℕ) (p q : Pixel) : Type 0 where
   pub g : Kept step (p .g) (q .g)
   pub b : Kept step (p .b) (q .b)
 
--- 'a black pixel comes back as zeros'
+-- what a black pixel comes back as
 abbrev pub zeros : Pixel
 zeros = record { r = ofUnits 0; g = ofUnits 0; b = ofUnits 0 }

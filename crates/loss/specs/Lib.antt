@@ -1,4 +1,4 @@
--- What document 01 claims of one pixel, read and written.
+-- What is claimed of one pixel, read and written: RULES 4.14, 5.1 and 8.4.
 pub mod Document
 pub mod Apart
 pub mod Written

@@ -1,4 +1,4 @@
--- What document 01 claims of the four bytes of a written pixel.
+-- What follows from RULES 5.1 for the four bytes of a written pixel.
 use mathlib.Core.Path.{_≡_}
 use mathlib.Core.Logic.{_⊎_}
 use Prim.Native.Nat.{_≤_}

@@ -1,4 +1,4 @@
--- One channel as it is written, by document 01, "Rows written". A pixel is four bytes of px.
+-- One channel as it is written: RULES 5.3 and 5.4. A pixel is four bytes of px.
 use Prim.Native.Nat.{ℕ, zero, suc, _+_, min}
 use mathlib.Core.Bool.{true, false, _&&_}
 use mathlib.Core.List.{List, [], _∷_, _++_}
@@ -19,7 +19,7 @@ unfoldable pub grow : ℕ → ℕ → List ℕ → List Run
 grow v n [] = run v n ∷ []
 grow v n (x ∷ xs) = elim (eqb x v && ltb n 127) [ true ↦ grow v (suc n) xs | false ↦ run v n ∷ grow x 1 xs ]
 
--- "A channel is cut from the left into equal runs of at most 127."
+-- a channel is cut from its start on into runs of equal bytes, each as long as it can be but at most 127
 unfoldable pub cut : List ℕ → List Run
 cut [] = []
 cut (x ∷ xs) = grow x 1 xs
@@ -33,19 +33,19 @@ bytes (run v n ∷ rs) = replicate n v ++ bytes rs
 abbrev pub packet : ℕ → ℕ → List ℕ
 packet v n = (128 + n) ∷ v ∷ []
 
--- "literals of at most 128", each packet with its count in front; k bytes more belong to the packet in hand
+-- literals, at most 128 to a count, which stands in front of them; k bytes more belong to the count in hand
 abbrev pub literals : ℕ → List ℕ → List ℕ
 literals k [] = []
 literals zero (x ∷ xs) = min 128 (suc (length xs)) ∷ x ∷ literals 127 xs
 literals (suc k) (x ∷ xs) = x ∷ literals k xs
 
--- "A gathered stretch that is one run of 2 or 3 is written as a run; any other is literals of at most 128."
+-- a gathered stretch that is a single run of 2 or 3 is written as a run, any other as literals
 unfoldable pub stretch : List Run → List ℕ
 stretch [] = []
 stretch (run v n ∷ []) = elim (leb 2 n) [ true ↦ packet v n | false ↦ literals 0 (bytes (run v n ∷ [])) ]
 stretch (r ∷ s ∷ g) = literals 0 (bytes (r ∷ s ∷ g))
 
--- "Runs shorter than 4 gather until a run of 4 or more, or the end.": the runs g are gathered, and the runs rs follow
+-- runs shorter than 4 are gathered, up to a run of 4 or more or to the end: the runs g are gathered, and the runs rs follow
 unfoldable pub gather : List Run → List Run → List ℕ
 gather g [] = stretch g
 gather g (run v n ∷ rs) =

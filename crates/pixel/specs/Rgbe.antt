@@ -12,7 +12,7 @@ use Rattle.pixel.specs.declared.Packed.{Packed}
 use Rattle.pixel.specs.declared.Packed.the-variants.{Bytes, TooBright}
 use Rattle.pixel.specs.Units.{ofUnits, mag}
 
--- ---- 'Sample from mantissa m and exponent byte E: 0 if E is 0; else with d = E - 128 and k = |d| mod 32, m·2^(k-8) if d > 0 and m·2^(-k-8) otherwise.'
+-- ---- RULES 4.13: a sample of mantissa m and exponent byte E is 0 where E is 0; else, with d = E - 128 and k = |d| mod 32, m·2^(k-8) where d is above 0, and m·2^(-k-8) where it is not
 
 -- 2^(k-8), or 2^(-k-8), is 2^crateShift times 2^-149: 149 - 8 is 141. |d| is E - 128 if d > 0, and 128 - E otherwise.
 unfoldable pub crateShift : ℕ → ℕ
@@ -34,13 +34,13 @@ rgbeAt bytes i = record { r = getD bytes i 0; g = getD bytes (i + 1) 0; b = getD
 abbrev pub pixelOf : (ℕ → ℕ → ℕ) → Rgbe → Pixel
 pixelOf units q = record { r = ofUnits (units (q .r) (q .e)); g = ofUnits (units (q .g) (q .e)); b = ofUnits (units (q .b) (q .e)) }
 
--- ---- 'Pixel: the largest sample that is a number is v.'
+-- ---- RULES 5.1: v is the largest sample that is a number
 
 -- v; 0 where no sample is a number above 0, since `mag` counts the others as 0
 unfoldable pub peak : Pixel → ℕ
 peak p = max (max (mag (p .r)) (mag (p .g))) (mag (p .b))
 
--- ---- 'With none, or v not above 1e-32 (the f32 nearest to it), the bytes are 0,0,0,0.'
+-- ---- Where there is none, or v is not above 1e-32 (the f32 nearest to it), the bytes are 0,0,0,0
 
 -- the f32 nearest to 1e-32
 abbrev pub dark : ℕ
@@ -50,7 +50,7 @@ dark = 0xcfb11f * 2 ^ 19
 abbrev pub black : Rgbe
 black = record { r = 0; g = 0; b = 0; e = 0 }
 
--- ---- 'Else e has 2^(e-1) <= v < 2^e; each byte is its sample times 2^(8-e), rounded down, with 0 for a negative one or no number; the last byte is e + 128.'
+-- ---- Else e is the number with 2^(e-1) <= v < 2^e; each byte is its sample times 2^(8-e), rounded down, and 0 for a negative sample or no number; the last byte is 128 + e
 
 -- A sample of n times 2^-149, times 2^(8-e), rounded down. In units of 2^-149 v has e + 149 binary digits, so 2^(8-e) times 2^-149 is 2^8 / 2^digits.
 abbrev pub byteOf : ℕ → ℕ → ℕ
@@ -60,7 +60,7 @@ byteOf digits n = n * 256 / 2 ^ digits
 abbrev pub coded : ℕ → Pixel → Rgbe
 coded digits p = record { r = byteOf digits (mag (p .r)); g = byteOf digits (mag (p .g)); b = byteOf digits (mag (p .b)); e = digits - 21 }
 
--- ---- Refusal 12: 'a pixel's largest is 2^127 or more, plus infinity included.'
+-- ---- Where v is 2^127 or more, plus infinity included, there are none: refusal 12
 
 -- 2^127 is 2^276 times 2^-149
 unfoldable pub tooBright : Pixel → Bool

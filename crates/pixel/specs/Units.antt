@@ -1,6 +1,6 @@
 -- A finite f32 counts as its whole number of 2^-149.
 use Prim.Native.Nat.{ℕ, _*_, _/_, _^_}
-use mathlib.Core.Bool.{Bool, true, false, not}
+use mathlib.Core.Bool.{Bool, true, false}
 use lib.Dec.{eqb}
 use lib.Ieee.{Float, nan, inf, fin, up, down, round, binary32}
 use lib.Ieee.Exact.{HasValue}
@@ -19,12 +19,6 @@ unfoldable pub mag : Float → ℕ
 mag nan = 0
 mag (inf s) = pick s 0 (2 ^ 277)
 mag (fin s m e) = pick s 0 (m * up e * 2 ^ 149 / down e)
-
--- a number without a minus sign
-abbrev pub bright : Float → Bool
-bright nan = false
-bright (inf s) = not s
-bright (fin s m e) = not s
 
 -- finite and not negative; minus zero is not negative
 abbrev pub plain : Float → Bool

@@ -5,7 +5,7 @@ ghost use Prim.Native.Nat.{_+_, _/_, _^_, _<_, _≤_, max};
 ghost use lib.Dec.{T, ltb};
 ghost use lib.Ieee.{size};
 ghost use lib.ListN.{length};
-ghost use Rattle.pixel.specs.Units.{ofUnits, mag, bright};
+ghost use Rattle.pixel.specs.Units.{ofUnits, mag};
 ghost use Rattle.pixel.specs.Rgbe.{
   crateShift,
   crateScale,
@@ -19,7 +19,7 @@ ghost use Rattle.pixel.specs.Rgbe.{
   bytesOf,
   packedOf,
 };
-ghost use Rattle.pixel.specs.Inner.{near, AsWord};
+ghost use Rattle.pixel.specs.Inner.{bright, near, AsWord};
 ghost use Rattle.pixel.specs.declared.Rgbe.{Rgbe};
 
 // Three samples.

@@ -1,4 +1,4 @@
--- One row as it is written, and the worst row, by document 01, "Rows written". A pixel is four bytes of px.
+-- One row as it is written, RULES 5.2 and 5.5, and the worst row, RULES 7.3. A pixel is four bytes of px.
 use Prim.Native.Nat.{ℕ, _+_, _*_, _/_, _%_}
 use mathlib.Core.Bool.{Bool, _&&_}
 use mathlib.Core.List.{List, [], _∷_, _++_}
@@ -7,21 +7,21 @@ use Rattle.steps.specs.Loop.{pick}
 use Rattle.steps.specs.Place.{bytesFrom}
 use Rattle.parts.specs.Channel.{code, channel}
 
--- "Widths 8 to 32,767"
+-- widths 8 to 32,767
 unfoldable pub isCoded : ℕ → Bool
 isCoded w = leb 8 w && leb w 32767
 
--- "mark 2, 2, w/256, w mod 256"
+-- the mark 2, 2, w/256, w mod 256
 abbrev pub mark : ℕ → List ℕ
 mark w = 2 ∷ 2 ∷ (w / 256) ∷ (w % 256) ∷ []
 
--- the mark, "then four channels"
+-- the mark, and four channels
 unfoldable pub codedRow : List ℕ → ℕ → ℕ → List ℕ
 codedRow px at w =
     mark w
     ++ (code (channel px at w) ++ (code (channel px (at + 1) w) ++ (code (channel px (at + 2) w) ++ code (channel px (at + 3) w))))
 
--- a row of w pixels, the first at place at; "Other widths are written flat."
+-- a row of w pixels, the first at place at; at other widths it is written flat
 unfoldable pub rowOf : List ℕ → ℕ → ℕ → List ℕ
 rowOf px at w = pick (isCoded w) (codedRow px at w) (bytesFrom px at (4 * w))
 

@@ -1,4 +1,4 @@
--- Document 01, "Header": four fields, with white space trimmed at both ends.
+-- RULES 3.3 to 3.5: four fields, with white space trimmed at both ends, and the axes that they name.
 use Prim.Native.Nat.{ℕ}
 use mathlib.Core.Bool.{Bool, _&&_, _||_}
 use mathlib.Core.List.{List, [], _∷_, reverse}

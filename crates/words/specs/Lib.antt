@@ -1,4 +1,4 @@
--- Document 01, "Header": its lines, fields and sizes.
+-- The words of a header: RULES 3.1 to 3.6.
 pub mod Lines
 pub mod Fields
 pub mod Sizes

@@ -1,4 +1,4 @@
--- Document 01, "Header": the first line, and the further lines, which are passed over.
+-- RULES 3.1 and 3.2: the first line, and the further lines, which are passed over.
 use Prim.Native.Nat.{ℕ, _+_, _-_}
 use mathlib.Core.Bool.{Bool, true, false, _&&_, _||_}
 use mathlib.Core.List.{List, [], _∷_}

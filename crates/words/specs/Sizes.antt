@@ -1,4 +1,4 @@
--- Document 01, "Header": a size is one digit or more with an optional leading plus; leading zeros are allowed.
+-- RULES 3.6: a size is one decimal digit or more, with a plus in front or without; leading zeros are allowed.
 use Prim.Native.Nat.{ℕ, _+_, _-_, _*_, _^_}
 use mathlib.Core.Bool.{Bool, true, false, _&&_}
 use mathlib.Core.List.{List, [], _∷_}
@@ -40,11 +40,10 @@ isSize field = isSome (unsigned field) && isNumber 0 (unsigned field)
 unfoldable pub sizeOf : List ℕ → ℕ
 sizeOf field = valueFrom 0 (unsigned field)
 
--- ---- What the functions on sizes answer
-
--- digits after those that stand for n
+-- the number that digits stand for, after those that stand for n, if it is below 2^64
 unfoldable pub numberFrom : ℕ → List ℕ → Size
 numberFrom n xs = pick (isNumber n xs) (Number (valueFrom n xs)) NoNumber
 
+-- what a field says as a size
 unfoldable pub sizeAnswer : List ℕ → Size
 sizeAnswer field = pick (isSize field) (Number (sizeOf field)) NoNumber

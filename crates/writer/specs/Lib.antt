@@ -1,3 +1,3 @@
--- The whole writer, by document 01: "Numbers returned" and "Rows written".
+-- The whole writer: RULES 2.5, 5.6, 6.2 and 7.
 pub mod Write
 pub mod Inner

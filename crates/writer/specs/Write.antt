@@ -92,7 +92,7 @@ WritePromise w h samples out answer out′ = (paperOf answer, out′) ≡ writeO
 abbrev pub Write4Promise : ℕ → ℕ → List ℕ → List ℕ → WriteAnswer → List ℕ → Type 0
 Write4Promise w h px out answer out′ = (paperOf answer, out′) ≡ write4Of w h px out
 
--- the Rust's formula for the length of a file: "none" exactly where it passes 2^64 - 1
+-- RULES 7.1: 4wh + 1,024, and "none" where that passes 2^64 - 1
 abbrev pub expectedSize : ℕ → ℕ → Amount
 expectedSize w h = amountOf (w * h * 4 + 1024)
 

@@ -1,6 +1,6 @@
 -- The laws that proofs use of `specs/Hex.antt`.
 use Prim.Native.Nat.{ℕ, suc, _+_, _-_, _*_, _/_, _%_, _^_, _<_, _≤_}
-use mathlib.Core.Bool.{Bool, true, false, not, _&&_, _||_, false≢true}
+use mathlib.Core.Bool.{Bool, true, false, not, _||_, false≢true}
 use mathlib.Core.List.{List, [], _∷_}
 use mathlib.Core.Path.{_≡_, refl, sym, ap, subst, _∙_}
 use native.Mathlib.Nat.{lt-of-lt-of-le, le-trans, le-of-eq, mul-le-mul-right, mul-assoc, mul-div-le, mul-zero, mul-one, mul-add, sub-zero, min-le-left, add-sub-cancel-left, pow-le-pow-right, pow-succ'}
@@ -13,7 +13,7 @@ use lib.ListN.{length, getD, set, take, drop, length-take, length-drop, drop-of-
 use lib.Seq.{take-all, drop-drop}
 use Rattle.steps.specs.Loop.{pick}
 use Rattle.steps.specs.Place.{spread}
-use Rattle.hex.specs.Digits.{worth, allDigits, valueFrom, numeralFrom}
+use Rattle.hex.specs.Digits.{worth, numeralFrom}
 use Rattle.hex.specs.Hex.{isDash, countOf, firstThen, valuesOf, stored, readBy, bytesRead, samplesRead}
 use Rattle.steps.proofs.Laws.Place.{length-spread}
 use Rattle.hex.specs.declared.Number.{Number}
@@ -58,24 +58,18 @@ step n w p v h l =
     let more : n * 16 + w + 1 ≤ (n + 1) * 16 = omega arith in
     lt-of-lt-of-le l (le-trans (mul-le-mul-right p more) (le-of-eq (mul-assoc (n + 1) 16 p)))
 
-bound : (n : ℕ) (bs : List ℕ) → allDigits bs ≡ true → valueFrom n bs < (n + 1) * 16 ^ length bs
-unfolding allDigits valueFrom
-bound n [] h = omega arith
-bound n (b ∷ bs) h = rw pow-succ' (by (ltb (worth b) 16) refl h (bound (n * 16 + worth b) bs))
-  where
-    by : (t : Bool) → ltb (worth b) 16 ≡ t → t && allDigits bs ≡ true → (allDigits bs ≡ true → valueFrom (n * 16 + worth b) bs < (n * 16 + worth b + 1) * 16 ^ length bs) → valueFrom (n * 16 + worth b) bs < (n + 1) * (16 * 16 ^ length bs)
-    by true e h rest = step n (worth b) (16 ^ length bs) (valueFrom (n * 16 + worth b) bs) (ltb-true (worth b) 16 e) (rest h)
-    by false e h rest = absurd (false≢true h)
-
--- a value of so many digits
-value-bound : (bs : List ℕ) (b : ℕ) → numeralFrom 0 bs ≡ Is b → b < 16 ^ length bs
+bound : (n : ℕ) (bs : List ℕ) (b : ℕ) → numeralFrom n bs ≡ Is b → b < (n + 1) * 16 ^ length bs
 unfolding numeralFrom
-value-bound bs b e = by (allDigits bs) (ltb (valueFrom 0 bs) (2 ^ 64)) refl e
+bound n [] b e = let is : n ≡ b = cc in omega arith
+bound n (c ∷ bs) b e = rw pow-succ' (by (ltb (worth c) 16) refl e (bound (n * 16 + worth c) bs b))
   where
-    by : (t u : Bool) → allDigits bs ≡ t → pick (t && u) (Is (valueFrom 0 bs)) Missing ≡ Is b → b < 16 ^ length bs
-    by true true et h = let is : valueFrom 0 bs ≡ b = cc in let below = bound 0 bs et in omega arith
-    by true false et h = absurd (let y : _≡_ {A = ℕ} 0 1 = cc in omega arith)
-    by false u et h = absurd (let y : _≡_ {A = ℕ} 0 1 = cc in omega arith)
+    by : (t : Bool) → ltb (worth c) 16 ≡ t → elim t [ true ↦ numeralFrom (n * 16 + worth c) bs | false ↦ Missing ] ≡ Is b → (numeralFrom (n * 16 + worth c) bs ≡ Is b → b < (n * 16 + worth c + 1) * 16 ^ length bs) → b < (n + 1) * (16 * 16 ^ length bs)
+    by true t e rest = step n (worth c) (16 ^ length bs) b (ltb-true (worth c) 16 t) (rest e)
+    by false t e rest = absurd (let y : _≡_ {A = ℕ} 0 1 = cc in omega arith)
+
+-- at most so many bytes are taken
+short : (n : ℕ) (bs : List ℕ) → length (take n bs) ≤ n
+short n bs = le-trans (le-of-eq (length-take n bs)) (min-le-left n (length bs))
 
 -- the value of the digits that the code takes for the k-th
 module _ (digits : ℕ) (field : List ℕ) (k : ℕ) (r : Number) (e : r ≡ numeralFrom 0 (take (digits * k + digits - digits * k) (drop (digits * k) field))) where
@@ -85,8 +79,16 @@ module _ (digits : ℕ) (field : List ℕ) (k : ℕ) (r : Number) (e : r ≡ num
   value-small : (b : ℕ) → r ≡ Is b → b < 16 ^ digits
   value-small b is =
       let part = take digits (drop (digits * k) field) in
-      let short : length part ≤ digits = le-trans (le-of-eq (length-take digits (drop (digits * k) field))) (min-le-left digits (length (drop (digits * k) field))) in
-      lt-of-lt-of-le (value-bound part b (value-is ∙ is)) (pow-le-pow-right {n = 16} (omega arith) {i = length part} {j = digits} short)
+      let under : b < 16 ^ length part = omega (arith, bound 0 part b (value-is ∙ is)) in
+      lt-of-lt-of-le under (pow-le-pow-right {n = 16} (omega arith) {i = length part} {j = digits} (short digits (drop (digits * k) field)))
+
+-- the digits that the code takes are few
+module _ (field : List ℕ) (k : ℕ) where
+  pub byte-few : length (take (2 * k + 2 - 2 * k) (drop (2 * k) field)) ≤ 8
+  byte-few = omega (arith, short (2 * k + 2 - 2 * k) (drop (2 * k) field))
+
+  pub pattern-few : length (take (8 * k + 8 - 8 * k) (drop (8 * k) field)) ≤ 8
+  pattern-few = omega (arith, short (8 * k + 8 - 8 * k) (drop (8 * k) field))
 
 module _ (field : List ℕ) (k : ℕ) (r : Number) where
   pub byte-small : r ≡ numeralFrom 0 (take (2 * k + 2 - 2 * k) (drop (2 * k) field)) → (b : ℕ) → r ≡ Is b → b < 256

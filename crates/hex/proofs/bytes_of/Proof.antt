@@ -3,7 +3,7 @@ use borrow.Author.Needs.{needs}
 use Prim.Native.Nat.{_*_, _-_, _≤_}
 use mathlib.Core.Path.{_≡_, refl}
 use lib.ListN.{length, length-set}
-use Rattle.hex.proofs.Laws.Hex.{count-room, byte-small, read-uncounted, read-short, read-counted, Reads, reads-first, reads-more, reads-none, reads-all}
+use Rattle.hex.proofs.Laws.Hex.{count-room, byte-few, byte-small, read-uncounted, read-short, read-counted, Reads, reads-first, reads-more, reads-none, reads-all}
 use Rattle.hex.proofs.bytes_of.Statement.{statement}
 use Rattle.hex.proofs.bytes_of.Tie as tie
 
@@ -50,7 +50,7 @@ part-numeral-end : tie.Need-part-numeral-end Inv-loop μ-loop
 part-numeral-end c = search needs
 
 numeral-requires : tie.Need-numeral-requires Inv-loop μ-loop
-numeral-requires c κs = search needs
+numeral-requires c κs = search byte-few
 
 enum-known-value : tie.Need-enum-known-value Inv-loop μ-loop
 enum-known-value c = search needs

@@ -4,7 +4,7 @@ use Prim.Native.Nat.{_*_, _-_, _≤_}
 use mathlib.Core.Path.{_≡_}
 use lib.ListN.{length, length-set}
 use lib.Ieee.{binary32, ofBits}
-use Rattle.hex.proofs.Laws.Hex.{count-room, pattern-small, read-uncounted, read-short, read-counted, Reads, reads-first, reads-more, reads-none, reads-all}
+use Rattle.hex.proofs.Laws.Hex.{count-room, pattern-few, pattern-small, read-uncounted, read-short, read-counted, Reads, reads-first, reads-more, reads-none, reads-all}
 use Rattle.hex.proofs.samples_of.Statement.{statement}
 use Rattle.hex.proofs.samples_of.Tie as tie
 
@@ -51,7 +51,7 @@ part-numeral-end : tie.Need-part-numeral-end Inv-loop μ-loop
 part-numeral-end c = search needs
 
 numeral-requires : tie.Need-numeral-requires Inv-loop μ-loop
-numeral-requires c κs = search needs
+numeral-requires c κs = search pattern-few
 
 enum-known-value : tie.Need-enum-known-value Inv-loop μ-loop
 enum-known-value c = search needs

@@ -1,4 +1,4 @@
--- Demand 3 at one pixel: each sample comes back at most its value and less than one step below it; a black pixel comes back as zeros.
+-- RULES 8.4 at one pixel: each sample comes back at most its value and less than one step below it; a black pixel comes back as zeros.
 use mathlib.Core.Path.{_≡_, refl, sym, ap, _∙_, subst}
 use mathlib.Core.Bool.{true, false}
 use mathlib.Core.Logic.{⊎-elim}
@@ -80,7 +80,7 @@ lies-somewhere p h =
 black-lies : (p : Pixel) (n : ℕ) → peak p ≡ 0 → Lies p n → ⊥
 black-lies p n e l = not-suc-le-zero (lt-of-lt-of-le (pow-pos (n - 1)) (subst (λ (v : ℕ). 2 ^ (n - 1) ≤ v) e (l .from)))
 
--- ---- demand 3 at a pixel
+-- ---- RULES 8.4 at a pixel
 
 light-kept : (p : Pixel) → 2 ^ 117 ≤ peak p → peak p < 2 ^ 180 → KeptAll (step (size (peak p))) p (pixelOf crateUnits (bytesOf p))
 light-kept p l h =

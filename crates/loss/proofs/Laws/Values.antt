@@ -1,4 +1,4 @@
--- Document 01, 'Rows read', last item: 'All are exact in f32. .. For every m the two agree at E = 0 and at E from 97 to 159; at each other E they differ for every m above 0.'
+-- RULES 4.13 and 4.14: each sample is an f32 exactly, and the document's value is the sample at E = 0 and at E from 97 to 159, and at each other E differs for every m above 0.
 use mathlib.Core.Path.{_≡_, sym, ap, _∙_, subst}
 use mathlib.Core.Logic.{⊎-elim, _⊎_, inl, inr}
 use Prim.Native.Nat.{ℕ, _+_, _*_, _^_, _≤_, _<_}

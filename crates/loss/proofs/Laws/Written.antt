@@ -1,4 +1,4 @@
--- Document 01, 'Rows written', first paragraph: a pixel is written black, or one of its three bytes is at least 128 and the last from 22 to 255.
+-- RULES 5.1: a pixel is written black, or one of its three bytes is at least 128 and the last from 22 to 255.
 use mathlib.Core.Path.{_≡_, sym, subst}
 use mathlib.Core.Logic.{⊎-elim, inl, inr}
 use Prim.Native.Nat.{ℕ, _+_, _-_, _^_, _≤_, _<_}

@@ -9,7 +9,8 @@ use lib.Pow.{pow-pos, pow-add, pow-mono}
 use lib.Ieee.{Float, binary32, fits, toBits, size}
 use lib.Ieee.Digits.{size-lt, size-reaches, size-le}
 use lib.Ieee.Fits.{kept-lt}
-use Rattle.pixel.specs.Units.{mag, bright}
+use Rattle.pixel.specs.Units.{mag}
+use Rattle.pixel.specs.Inner.{bright}
 use Rattle.pixel.specs.Rgbe.{dark}
 use Rattle.pixel.proofs.Laws.Numbers.{either}
 use Rattle.pixel.proofs.Laws.Samples.{bright-exact}

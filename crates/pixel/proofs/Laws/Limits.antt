@@ -6,9 +6,9 @@ use lib.IntN.{negsuc}
 use lib.Dec.{T, ltb}
 use lib.Ieee.{Float, round, binary32, fin, ofBits, lt, fits}
 use lib.Ieee.Bits.{ofBits-fits}
-use Rattle.pixel.specs.Units.{ofUnits, mag, bright}
+use Rattle.pixel.specs.Units.{ofUnits, mag}
 use Rattle.pixel.specs.Rgbe.{dark}
-use Rattle.pixel.specs.Inner.{near}
+use Rattle.pixel.specs.Inner.{bright, near}
 use Rattle.pixel.proofs.Laws.Order.{lt-mag}
 
 -- ---- `dark` is the f32 nearest to 1e-32: each side is computed to its own literal

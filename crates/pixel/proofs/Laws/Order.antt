@@ -9,7 +9,8 @@ use lib.Pow.{pow-pos}
 use lib.Ieee.{Float, nan, inf, fin, binary32, up, down, lt, fits}
 use lib.Ieee.Fits.{down-pos}
 use borrow.Author.Tests.{lt-ltb, le-ltb, ltb-true, ltb-false}
-use Rattle.pixel.specs.Units.{mag, bright}
+use Rattle.pixel.specs.Units.{mag}
+use Rattle.pixel.specs.Inner.{bright}
 use Rattle.pixel.proofs.Laws.Numbers.{same-test, over-left, over-right}
 use Rattle.pixel.proofs.Laws.Samples.{shape, own-mag}
 

@@ -9,7 +9,8 @@ use lib.Pow.{pow-pos, shl-lt}
 use lib.Ieee.{Float, binary32, fits, size, ofBits, toBits, add, sub, lt, isNan}
 use lib.Ieee.Fits.{sub-fits}
 use borrow.Author.Tests.{ltb-true, ltb-false}
-use Rattle.pixel.specs.Units.{ofUnits, Exactly, mag, bright}
+use Rattle.pixel.specs.Units.{ofUnits, Exactly, mag}
+use Rattle.pixel.specs.Inner.{bright}
 use Rattle.pixel.proofs.Laws.Units.{units-exact, power-exact, mag-is, exact-bright}
 use Rattle.pixel.proofs.Laws.Patterns.{bitsOf, bits-are, field-is}
 use Rattle.pixel.proofs.Laws.Samples.{bright-exact, bright-number}

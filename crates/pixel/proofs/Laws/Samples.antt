@@ -10,7 +10,8 @@ use lib.Dec.{T, ltb, leb, eqb, lit<, leb→le, ltb→lt}
 use lib.Pow.{pow-pos, pow-add, pow-mono, pow-lt, shl-lt}
 use lib.Ieee.{Float, nan, inf, fin, binary32, up, down, fits, isNan}
 use lib.Ieee.Fits.{down-pos, and-l, and-r}
-use Rattle.pixel.specs.Units.{Exactly, mag, bright}
+use Rattle.pixel.specs.Units.{Exactly, mag}
+use Rattle.pixel.specs.Inner.{bright}
 use Rattle.pixel.proofs.Laws.Numbers.{either}
 
 -- ---- what `fits` says of a value that is not zero

@@ -13,7 +13,8 @@ use lib.Ieee.Digits.{size-le}
 use lib.Ieee.Fits.{nearest-le}
 use lib.Ieee.Nearest.{div-same, closest}
 use lib.Ieee.Scale.{round-same, round-val, grid}
-use Rattle.pixel.specs.Units.{ofUnits, Exactly, mag, bright}
+use Rattle.pixel.specs.Units.{ofUnits, Exactly, mag}
+use Rattle.pixel.specs.Inner.{bright}
 use Rattle.pixel.specs.Rgbe.{byteOf}
 use Rattle.pixel.proofs.Laws.Numbers.{either, mul-pow-pow}
 use Rattle.pixel.proofs.Laws.Units.{units-exact, exact-bright, mag-is, mul-values}

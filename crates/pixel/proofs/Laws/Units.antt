@@ -12,7 +12,8 @@ use lib.Ieee.Fits.{down-pos, round-fits}
 use lib.Ieee.Back.{round-whole}
 use lib.Ieee.Scale.{round-same}
 use Rattle.steps.specs.Loop.{pick}
-use Rattle.pixel.specs.Units.{ofUnits, Exactly, mag, bright, plain}
+use Rattle.pixel.specs.Units.{ofUnits, Exactly, mag, plain}
+use Rattle.pixel.specs.Inner.{bright}
 
 -- ---- what has few enough digits is exact
 pub units-exact : (q j : ℕ) → q < 2 ^ 24 → q * 2 ^ j < 2 ^ 277 → Exactly (ofUnits (q * 2 ^ j)) (q * 2 ^ j)
