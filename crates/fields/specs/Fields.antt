@@ -41,10 +41,12 @@ stepOf NoNumber next = Nothing
 unfoldable pub numberAt : List ℕ → ℕ → Step
 numberAt line at = pick (leb at (length line)) (stepOf (numberOf (field (drop at line))) (fieldEnd line at + 1)) Nothing
 
+-- two numbers, if there is a second
 abbrev pub secondOf : ℕ → Step → Pair
 secondOf a (Found b next) = Both a b next
 secondOf a Nothing = Fewer
 
+-- two numbers, if there is a first
 abbrev pub firstOf : List ℕ → Step → Pair
 firstOf line (Found a p) = secondOf a (numberAt line p)
 firstOf line Nothing = Fewer

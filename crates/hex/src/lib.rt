@@ -15,7 +15,6 @@ pub enum Number {
 // The worth of a digit; 16 for a byte that is none.
 fn digit(b: u8) -> usize
     ensures { λ r. ⌜ r ≡ worth b ⌝ }
-    ensures { λ r. ⌜ r ≤ 16 ⌝ }
 {
     if b < 48 {
         return 16;

@@ -5,16 +5,16 @@ use Rattle.hex.proofs.digit.Statement.{statement}
 use Rattle.hex.proofs.digit.Tie as tie
 
 returns : tie.Need-returns
-returns c = (search worth-low, search needs)
+returns c = search worth-low
 
 wide-requires : tie.Need-wide-requires
 wide-requires c κs = search needs
 
 returns-2 : tie.Need-returns-2
-returns-2 c = (search worth-decimal, search needs)
+returns-2 c = search worth-decimal
 
 returns-3 : tie.Need-returns-3
-returns-3 c = (search worth-between, search needs)
+returns-3 c = search worth-between
 
 sub-wide : tie.Need-sub-wide
 sub-wide c = search needs
@@ -23,10 +23,10 @@ wide-requires-2 : tie.Need-wide-requires-2
 wide-requires-2 c κs = search needs
 
 returns-4 : tie.Need-returns-4
-returns-4 c = (search worth-letter, search needs)
+returns-4 c = search worth-letter
 
 returns-5 : tie.Need-returns-5
-returns-5 c = (search worth-high, search needs)
+returns-5 c = search worth-high
 
 pub digit-spec : {M : Type 1} → statement M
 digit-spec =
