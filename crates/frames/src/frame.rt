@@ -12,7 +12,7 @@ fn worst_row(width: usize) -> usize
     requires { ⌜ width ≤ 65535 ⌝ }
     ensures { λ r. ⌜ r ≡ worstRow width ⌝ }
 {
-    if runs::is_coded(width) {
+    if steps::is_coded(width) {
         return 4 + 4 * (width + (width + 127) / 128);
     }
     4 * width

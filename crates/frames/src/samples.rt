@@ -106,7 +106,7 @@ fn row_length(samples: &[f32], from: usize, width: usize, line: &mut [u8; 131072
     requires { ⌜ from + 3 * width ≤ length (now samples) ⌝ }
     ensures { λ r. ⌜ r ≡ length (rowOf (packed (now (samples .entry)) from width) 0 width) ⌝ }
 {
-    if runs::is_coded(width) {
+    if steps::is_coded(width) {
         pack_row(samples, from, width, line, 0);
         return runs::row_length(line, 0, width);
     }
@@ -125,7 +125,7 @@ fn write_row(
     requires { ⌜ (from + 3 * width ≤ length (now samples)) × (to + length (rowOf (packed (now samples) from width) 0 width) ≤ length (now out)) ⌝ }
     ensures { λ r. ⌜ (r ≡ to + length (rowOf (packed (now (samples .entry)) from width) 0 width)) × (now (out .exit) ≡ spread 1 (now (out .entry)) to (rowOf (packed (now (samples .entry)) from width) 0 width)) ⌝ }
 {
-    if runs::is_coded(width) {
+    if steps::is_coded(width) {
         pack_row(samples, from, width, line, 0);
         return runs::write_row(line, 0, width, out, to);
     }

@@ -12,14 +12,14 @@ use Rattle.steps.specs.Place.{spread}
 use Rattle.steps.specs.Answer.{Answer, done}
 use Rattle.pixel.specs.declared.Pixel.{Pixel}
 use Rattle.pixel.specs.Units.{plain}
-use Rattle.pixel.specs.Rgbe.{peak}
+use Rattle.pixel.specs.Rgbe.{peak, rgbeAt}
 use Rattle.loss.specs.Kept.{Numbers, Between, InRange, Lies, step, KeptAll, zeros}
 use Rattle.header.specs.declared.Head.{Head}
 use Rattle.header.specs.Head.{head}
 use Rattle.flat.specs.Flat.{isRepeat}
 use Rattle.rows.specs.Row.{RowRule, crateRow}
-use Rattle.runs.specs.Row.{isCoded}
-use Rattle.reader.specs.Samples.{SampleRule, rgbeAt}
+use Rattle.steps.specs.Width.{isCoded}
+use Rattle.reader.specs.Samples.{SampleRule}
 use Rattle.reader.specs.Read.{cratePixel, readBy, paperOf, ReadPromiseBy}
 use Rattle.reader.specs.declared.ReadAnswer.{ReadAnswer}
 use Rattle.frames.specs.Samples.{pixelAt}

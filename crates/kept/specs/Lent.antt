@@ -12,7 +12,8 @@ use Rattle.steps.specs.declared.Taken.the-variants.{Done, Fault}
 use Rattle.header.specs.declared.Head.{Head}
 use Rattle.header.specs.Head.{headChecks, fieldsOf, headOf}
 use Rattle.rows.specs.Row.{RowRule}
-use Rattle.reader.specs.Samples.{SampleRule, rgbeAt}
+use Rattle.pixel.specs.Rgbe.{rgbeAt}
+use Rattle.reader.specs.Samples.{SampleRule}
 use Rattle.reader.specs.Frame.{Stored, storedOf, cleared, Left}
 use Rattle.reader.specs.Read.{frameChecks, framed, readBy}
 use Rattle.kept.specs.Back.{pixel}

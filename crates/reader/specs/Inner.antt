@@ -5,7 +5,8 @@ use lib.Ieee.{Float}
 use Rattle.steps.specs.Answer.{Answer, refuse, checked}
 use Rattle.header.specs.declared.Head.{Head}
 use Rattle.rows.specs.Row.{RowRule}
-use Rattle.reader.specs.Samples.{SampleRule, rgbeAt, three}
+use Rattle.pixel.specs.Rgbe.{rgbeAt}
+use Rattle.reader.specs.Samples.{SampleRule, three}
 use Rattle.reader.specs.Frame.{storedOf, cleared, rowsOf}
 use Rattle.reader.specs.Read.{frameChecks, framed}
 

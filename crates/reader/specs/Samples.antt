@@ -1,19 +1,15 @@
 -- The samples of a row, by a rule for one pixel.
 use Prim.Native.Nat.{ℕ, zero, suc, _+_, _*_}
 use mathlib.Core.List.{List, [], _∷_}
-use lib.ListN.{getD}
 use lib.Ieee.{Float}
 use Rattle.steps.specs.Place.{spread}
 use Rattle.pixel.specs.declared.Pixel.{Pixel}
 use Rattle.pixel.specs.declared.Rgbe.{Rgbe}
+use Rattle.pixel.specs.Rgbe.{rgbeAt}
 
 -- what four bytes stand for
 abbrev pub SampleRule : Type 0
 SampleRule = Rgbe → Pixel
-
--- the four bytes of the row store from byte i on
-abbrev pub rgbeAt : List ℕ → ℕ → Rgbe
-rgbeAt store i = record { r = getD store i 0; g = getD store (i + 1) 0; b = getD store (i + 2) 0; e = getD store (i + 3) 0 }
 
 -- a pixel's three samples, and then others
 abbrev pub three : Pixel → List Float → List Float

@@ -1,11 +1,12 @@
 -- One row, by document 01, "Rows read": the kind of row, and the row store after it, over what a reading does with its parts.
 use Prim.Native.Nat.{ℕ, _+_, _-_, min}
 use mathlib.Core.List.{List}
-use mathlib.Core.Bool.{Bool, _&&_, _||_}
+use mathlib.Core.Bool.{Bool, not, _&&_}
 use lib.ListN.{length, getD, set}
 use lib.Dec.{ltb, leb, eqb}
 use Rattle.steps.specs.Loop.{pick}
 use Rattle.steps.specs.Place.{bytesFrom, spread}
+use Rattle.steps.specs.Width.{isCoded}
 use Rattle.channels.specs.Channel.{crateCount}
 use Rattle.channels.specs.Channels.{channelsOf}
 use Rattle.flat.specs.Flat.{crateFlat, flatOf}
@@ -20,9 +21,9 @@ RowRule = List ℕ → ℕ → List ℕ → ℕ → Taken × List ℕ
 
 -- ---- The kind of row, in any reading
 
--- "Widths 1 to 7 and over 32,767 are flat rows."
+-- "Widths 1 to 7 and over 32,767 are flat rows.": those that are not coded
 unfoldable pub isFlatWidth : ℕ → Bool
-isFlatWidth width = ltb width 8 || ltb 32767 width
+isFlatWidth width = not (isCoded width)
 
 -- "if the second isn't 2 or the third is 128 or more, the four are pixel 0 .. Else the row is four channels"
 unfoldable pub isMark : ℕ → ℕ → Bool

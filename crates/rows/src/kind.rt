@@ -16,10 +16,7 @@ pub(crate) enum Kind {
 pub(crate) fn is_flat_width(width: usize) -> bool
     ensures { λ r. ⌜ r ≡ isFlatWidth width ⌝ }
 {
-    if width < 8 {
-        return true;
-    }
-    32767 < width
+    !steps::is_coded(width)
 }
 
 // Whether the four bytes from a place on, which start with 2, are the mark of four channels.

@@ -1,15 +1,10 @@
 -- One row as it is written, RULES 5.2 and 5.5, and the worst row, RULES 7.3. A pixel is four bytes of px.
 use Prim.Native.Nat.{ℕ, _+_, _*_, _/_, _%_}
-use mathlib.Core.Bool.{Bool, _&&_}
 use mathlib.Core.List.{List, [], _∷_, _++_}
-use lib.Dec.{leb}
 use Rattle.steps.specs.Loop.{pick}
 use Rattle.steps.specs.Place.{bytesFrom}
+use Rattle.steps.specs.Width.{isCoded}
 use Rattle.parts.specs.Channel.{code, channel}
-
--- widths 8 to 32,767
-unfoldable pub isCoded : ℕ → Bool
-isCoded w = leb 8 w && leb w 32767
 
 -- the mark 2, 2, w/256, w mod 256
 abbrev pub mark : ℕ → List ℕ

@@ -5,15 +5,8 @@ ghost use mathlib.Core.Path.{_≡_};
 ghost use Prim.Native.Nat.{_+_, _*_, _<_, _≤_};
 ghost use lib.ListN.{length};
 ghost use Rattle.steps.specs.Place.{spread};
-ghost use Rattle.runs.specs.Row.{isCoded, mark, codedRow, rowOf};
+ghost use Rattle.runs.specs.Row.{mark, codedRow, rowOf};
 ghost use Rattle.runs.specs.Inner.{Stored};
-
-// Whether rows of w pixels are coded.
-pub fn is_coded(w: usize) -> bool
-    ensures { λ r. ⌜ r ≡ isCoded w ⌝ }
-{
-    8 <= w && w <= 32767
-}
 
 // How many bytes a coded row of w pixels, the first at `at`, is written in.
 fn coded_length(px: &[u8], at: usize, w: usize) -> usize
@@ -32,7 +25,7 @@ pub fn row_length(px: &[u8], at: usize, w: usize) -> usize
     requires { ⌜ at + 4 * w ≤ length (now px) ⌝ }
     ensures { λ r. ⌜ r ≡ length (rowOf (now (px .entry)) at w) ⌝ }
 {
-    if is_coded(w) {
+    if steps::is_coded(w) {
         return coded_length(px, at, w);
     }
     4 * w
@@ -66,7 +59,7 @@ pub fn write_row(px: &[u8], at: usize, w: usize, out: &mut [u8], to: usize) -> u
     requires { ⌜ (at + 4 * w ≤ length (now px)) × (to + length (rowOf (now px) at w) ≤ length (now out)) ⌝ }
     ensures { λ r. ⌜ Stored (now (out .entry)) to (rowOf (now (px .entry)) at w) r (now (out .exit)) ⌝ }
 {
-    if is_coded(w) {
+    if steps::is_coded(w) {
         return write_coded(px, at, w, out, to);
     }
     steps::put_bytes(px, at, out, to, 4 * w);

@@ -15,7 +15,7 @@ ghost use Rattle.sky.specs.View.{Held, Ended};
 fn is_old_run(store: &[u8; 262140], width: usize) -> bool
     requires { ⌜ width ≤ 65535 ⌝ }
 {
-    if runs::is_coded(width) {
+    if steps::is_coded(width) {
         return false;
     }
     survey::repeat::any_repeat(store, width)

@@ -3,6 +3,7 @@ pub mod Loop
 pub mod Place
 pub mod Turns
 pub mod Machines
+pub mod Width
 pub mod Answer
 pub mod Numbered
 pub mod Amount

@@ -6,6 +6,7 @@ ghost use mathlib.Core.Path.{_≡_};
 ghost use Prim.Native.Nat.{_+_, _-_, _≤_, min};
 ghost use lib.ListN.{length, getD, replicate};
 ghost use Rattle.steps.specs.Place.{spread, bytesFrom};
+ghost use Rattle.steps.specs.Width.{isCoded};
 
 // What reading a row, or a part of one, answers: the next place in the input, or the number of the refusal that the row is at fault by.
 pub enum Taken {
@@ -25,6 +26,13 @@ pub fn least(a: usize, b: usize) -> usize
     ensures { λ r. ⌜ r ≡ min a b ⌝ }
 {
     if a <= b { a } else { b }
+}
+
+// Whether rows of w pixels may be coded.
+pub fn is_coded(w: usize) -> bool
+    ensures { λ r. ⌜ r ≡ isCoded w ⌝ }
+{
+    8 <= w && w <= 32767
 }
 
 // a - b, or 0 where b is the larger.

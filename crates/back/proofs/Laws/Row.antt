@@ -22,10 +22,12 @@ use Rattle.channels.proofs.Laws.Channel.{TakesWhole, crate-whole}
 use Rattle.channels.proofs.Laws.Channels.{chans-starts, chans-again, chans-done}
 use Rattle.rows.proofs.Laws.Row.{Marked, mark-by, kind-channels, by-width, by-mark, marked-start}
 use Rattle.parts.specs.Channel.{code, channel}
-use Rattle.runs.specs.Row.{isCoded, codedRow, rowOf}
+use Rattle.runs.specs.Row.{codedRow, rowOf}
+use Rattle.steps.specs.Width.{isCoded}
 use Rattle.steps.proofs.Laws.Place.{spread-append, drop-next, drop-past, bytes-there}
 use Rattle.parts.proofs.Laws.Places.{length-channel}
-use Rattle.runs.proofs.Laws.Row.{coded-widths, row-coded, row-flat, flat-size}
+use Rattle.runs.proofs.Laws.Row.{row-coded, row-flat, flat-size}
+use Rattle.steps.proofs.Laws.Width.{coded-widths, width-coded}
 use Rattle.back.proofs.Laws.Channel.{ReadAs, code-read}
 use Rattle.back.proofs.Laws.Weave.{bytes-four, weave, early-covered}
 
@@ -33,7 +35,7 @@ use Rattle.back.proofs.Laws.Weave.{bytes-four, weave, early-covered}
 
 pub coded-width : (w : ℕ) → 8 ≤ w → w ≤ 32767 → false ≡ read.isFlatWidth w
 unfolding read.isFlatWidth
-coded-width w l h = simp (le-ltb w 8 l, le-ltb 32767 w h)
+coded-width w l h = simp (width-coded w l h)
 
 -- the bytes c0, c1, c2 and c3 are read as the four channels of w pixels of px, the first at place p
 abbrev pub FourRead : CountRule → List ℕ → ℕ → ℕ → List ℕ → List ℕ → List ℕ → List ℕ → Type 0
@@ -170,13 +172,8 @@ flat-there rule px src p (suc n) start at place store rest a e none r =
 -- ---- either row
 
 is-flat : (w : ℕ) → isCoded w ≡ false → true ≡ read.isFlatWidth w
-unfolding isCoded read.isFlatWidth
-is-flat w e = go (leb 8 w) (leb w 32767) refl refl e
-  where
-    go : (a b : Bool) → leb 8 w ≡ a → leb w 32767 ≡ b → a && b ≡ false → true ≡ read.isFlatWidth w
-    go true true ea eb f = absurd (false≢true (sym f))
-    go true false ea eb f = simp (lt-ltb 32767 w (leb-false w 32767 eb), le-ltb w 8 (leb-true 8 w ea))
-    go false b ea eb f = simp (lt-ltb w 8 (leb-false 8 w ea))
+unfolding read.isFlatWidth
+is-flat w e = simp e
 
 -- A row is read back: exactly its bytes are taken, and the pixels' bytes are in the first 4w places of the store, the rest of which is as
 -- it was. A flat row must have no pixel 1,1,1,n.

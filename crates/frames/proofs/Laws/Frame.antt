@@ -13,7 +13,8 @@ use Rattle.steps.specs.Place.{spread}
 use Rattle.steps.proofs.Laws.Place.{length-spread, spread-then}
 use Rattle.header.specs.Written.{written}
 use Rattle.header.proofs.Laws.Written.{written-length, digits-few}
-use Rattle.runs.specs.Row.{isCoded, rowOf, worstRow, worstChannel}
+use Rattle.runs.specs.Row.{rowOf, worstRow, worstChannel}
+use Rattle.steps.specs.Width.{isCoded}
 use Rattle.runs.proofs.Laws.Worst.{row-worst}
 use Rattle.frames.specs.Frame.{rowsOf, frameOf, worstOf}
 

@@ -7,8 +7,10 @@ use native.Mathlib.Omega.{arith}
 use lib.ListN.{length, drop}
 use lib.Ieee.{Float}
 use Rattle.steps.specs.Place.{spread, bytesFrom}
-use Rattle.runs.specs.Row.{isCoded, rowOf}
-use Rattle.runs.proofs.Laws.Row.{row-flat, flat-size, coded-widths}
+use Rattle.runs.specs.Row.{rowOf}
+use Rattle.steps.specs.Width.{isCoded}
+use Rattle.runs.proofs.Laws.Row.{row-flat, flat-size}
+use Rattle.steps.proofs.Laws.Width.{coded-widths}
 use Rattle.steps.proofs.Laws.Place.{bytes-there, spread-front}
 use Rattle.frames.specs.Samples.{packed}
 use Rattle.frames.proofs.Laws.Samples.{length-packed}

@@ -16,7 +16,7 @@ use Rattle.steps.specs.Place.{spread}
 use Rattle.steps.proofs.Laws.Place.{length-spread, spread-front}
 use Rattle.pixel.specs.declared.Pixel.{Pixel}
 use Rattle.pixel.specs.declared.Rgbe.{Rgbe}
-use Rattle.pixel.specs.Rgbe.{crateUnits, pixelOf, peak, dark, bytesOf}
+use Rattle.pixel.specs.Rgbe.{crateUnits, pixelOf, peak, dark, bytesOf, rgbeAt}
 use Rattle.loss.specs.Written.{Written}
 use Rattle.loss.specs.Kept.{InRange, Lies, step, KeptAll, zeros}
 use Rattle.pixel.proofs.Laws.Digits.{size-gt}
@@ -25,7 +25,7 @@ use Rattle.loss.proofs.Laws.Written.{written-bytes}
 use Rattle.flat.specs.Flat.{isRepeat}
 use Rattle.rows.specs.Row.{RowRule, crateRow}
 use Rattle.back.proofs.Laws.Row.{RowsBack, crate-row-back}
-use Rattle.reader.specs.Samples.{SampleRule, rgbeAt}
+use Rattle.reader.specs.Samples.{SampleRule}
 use Rattle.reader.specs.Inner.{samplesFrom}
 use Rattle.reader.specs.Read.{cratePixel, readBy}
 use Rattle.frames.specs.Samples.{pixelAt, packed}

@@ -19,7 +19,7 @@ use Rattle.steps.proofs.Laws.Turns.{Leads, Falls}
 use Rattle.pixel.specs.declared.Pixel.{Pixel}
 use Rattle.pixel.specs.declared.Rgbe.{Rgbe}
 use Rattle.pixel.specs.Units.{ofUnits}
-use Rattle.pixel.specs.Rgbe.{crateScale, crateUnits}
+use Rattle.pixel.specs.Rgbe.{crateScale, crateUnits, rgbeAt}
 use Rattle.pixel.proofs.Laws.Scales.{crate-none}
 use Rattle.loss.specs.Kept.{zeros}
 use Rattle.header.specs.declared.Head.{Head}
@@ -29,7 +29,7 @@ use Rattle.rows.specs.Row.{crateRow}
 use Rattle.rows.specs.Cut.{behind, CutRow}
 use Rattle.rows.proofs.Laws.Cut.{cutStore, cut-row, cut-exponents}
 use Rattle.parts.proofs.Laws.Cut.{lt-or-ge}
-use Rattle.reader.specs.Samples.{SampleRule, rgbeAt, three, placed}
+use Rattle.reader.specs.Samples.{SampleRule, three, placed}
 use Rattle.reader.specs.Frame.{Stored, along, storedOf, cleared, stepOf, Rows, rows, Left, rowTurn, noRows, rowsOf}
 use Rattle.reader.specs.Read.{cratePixel, framed, readBy}
 use Rattle.reader.proofs.Laws.Frame.{row-room, went-on, rows-start, rows-cases, rows-again, rows-done}

@@ -19,7 +19,8 @@ use Rattle.header.specs.Written.{written}
 use Rattle.back.proofs.Laws.Header.{header-back}
 use Rattle.flat.specs.Flat.{isRepeat}
 use Rattle.rows.specs.Row.{RowRule}
-use Rattle.runs.specs.Row.{isCoded, rowOf}
+use Rattle.runs.specs.Row.{rowOf}
+use Rattle.steps.specs.Width.{isCoded}
 use Rattle.back.proofs.Laws.Row.{NoRepeat, RowsBack}
 use Rattle.reader.specs.Samples.{SampleRule}
 use Rattle.reader.specs.Frame as reader

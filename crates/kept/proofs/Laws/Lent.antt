@@ -26,7 +26,8 @@ use Rattle.parts.proofs.Laws.Cut.{lt-or-ge}
 use Rattle.rows.specs.Row.{RowRule, crateRow}
 use Rattle.rows.proofs.Laws.Kept.{Kept, kept-same, kept-then, kept-spread}
 use Rattle.rows.proofs.Laws.Bounds.{SoundRow, crate-sound}
-use Rattle.reader.specs.Samples.{SampleRule, rgbeAt, three, placed}
+use Rattle.pixel.specs.Rgbe.{rgbeAt}
+use Rattle.reader.specs.Samples.{SampleRule, three, placed}
 use Rattle.reader.specs.Frame.{Stored, storedOf, cleared, stepOf, Left, rows, rowTurn, noRows, rowsOf}
 use Rattle.reader.specs.Read.{frameChecks, answerOf, framed, cratePixel, readBy}
 use Rattle.reader.proofs.Laws.Frame.{faulted, went-on, rows-start, rows-done, rows-fault, rows-again}

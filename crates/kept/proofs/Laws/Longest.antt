@@ -14,7 +14,8 @@ use Rattle.steps.specs.Loop.{pick}
 use Rattle.steps.specs.Answer.{Answer, done, refused, refuse, Check, checked}
 use Rattle.steps.proofs.Laws.Answer.{differ, passed-by}
 use Rattle.header.specs.Written.{written}
-use Rattle.runs.specs.Row.{isCoded, worstRow}
+use Rattle.runs.specs.Row.{worstRow}
+use Rattle.steps.specs.Width.{isCoded}
 use Rattle.parts.proofs.Laws.Channel.{and-no}
 use Rattle.frames.proofs.Laws.Frame.{frame-worst}
 use Rattle.frames.specs.Samples.{packed, firstBright}

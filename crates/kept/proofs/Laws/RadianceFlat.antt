@@ -14,9 +14,10 @@ use Rattle.steps.proofs.Laws.Place.{drop-next}
 use Rattle.pixel.specs.declared.Rgbe.{Rgbe}
 use Rattle.steps.specs.declared.Taken.the-variants.{Done}
 use Rattle.flat.specs.Flat.{FlatRule, isRepeat, crateFlat, flatOf}
+use Rattle.steps.proofs.Laws.Width.{width-narrow, width-wide}
 use Rattle.rows.specs.Row.{isFlatWidth, isMark, crateStart, crateRow}
 use Rattle.flat.proofs.Laws.Flat.{flat-starts}
-use Rattle.rows.proofs.Laws.Row.{narrow, not-narrow, mark-not, kind-flat, kind-pixel, early-other, early-two, start-flat, start-pixel, row-by-width, row-flat, row-pixel}
+use Rattle.rows.proofs.Laws.Row.{mark-not, kind-flat, kind-pixel, early-other, early-two, start-flat, start-pixel, row-by-width, row-flat, row-pixel}
 use Rattle.parts.proofs.Laws.Channel.{and-no}
 use Rattle.back.proofs.Laws.Row.{NoRepeat, coded-width, flat-there}
 use Rattle.kept.specs.Radiance.{after, isOldRun, Meaning, meaning, onward, flatFrom, flat, flatBytes, NoOldRun}
@@ -108,7 +109,8 @@ module _ (src : List ℕ) (at : ℕ) (store rest : List ℕ) where
   )
 
   flat-width : (w : ℕ) → (w < 8) ⊎ (32767 < w) → true ≡ isFlatWidth w
-  flat-width w = ⊎-elim (λ h. narrow w h) (λ h. sym (lt-ltb 32767 w h) ∙ not-narrow w (omega arith))
+  unfolding isFlatWidth
+  flat-width w = ⊎-elim (λ h. simp (width-narrow w h)) (λ h. simp (width-wide w (omega arith) h))
 
   -- widths 1 to 7 and over 32,767
   pub flat-by-width : (qs : List Rgbe) → (length qs < 8) ⊎ (32767 < length qs) → NoOldRun qs → drop at src ≡ flatBytes qs ++ rest → BothRead src at store qs rest

@@ -16,7 +16,8 @@ use Rattle.pixel.specs.declared.Rgbe.{Rgbe}
 use Rattle.parts.specs.Channel.{packet, code, channel}
 use Rattle.flat.specs.Flat.{isRepeat}
 use Rattle.steps.proofs.Laws.Place.{length-bytes}
-use Rattle.runs.specs.Row.{isCoded, codedRow, rowOf}
+use Rattle.runs.specs.Row.{codedRow, rowOf}
+use Rattle.steps.specs.Width.{isCoded}
 use Rattle.back.proofs.Laws.Coded.{code-by}
 use Rattle.parts.proofs.Laws.Places.{length-channel}
 use Rattle.runs.proofs.Laws.Row.{row-coded, row-flat}

@@ -12,8 +12,8 @@ use Rattle.steps.specs.Place.{bytesFrom, spread}
 use Rattle.steps.proofs.Laws.Place.{spread-front, getD-bytes, length-bytes}
 use Rattle.pixel.specs.declared.Pixel.{Pixel}
 use Rattle.pixel.specs.declared.Rgbe.{Rgbe}
-use Rattle.pixel.specs.Rgbe.{bytesOf}
-use Rattle.reader.specs.Samples.{SampleRule, rgbeAt, three}
+use Rattle.pixel.specs.Rgbe.{bytesOf, rgbeAt}
+use Rattle.reader.specs.Samples.{SampleRule, three}
 use Rattle.reader.specs.Inner.{samplesFrom}
 use Rattle.frames.specs.Samples.{pixelAt, four, packed}
 

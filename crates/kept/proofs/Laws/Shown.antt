@@ -12,6 +12,7 @@ use Rattle.header.specs.Head.{fieldsOf, headChecks, headOf}
 use Rattle.flat.specs.Flat.{fourTo, isRepeat, crateFlat, goesOn, flatTurn, flatOf}
 use Rattle.channels.specs.Channel.{isRun, spanLength, spanBytes, spanTaken, spanOf, crateCount, channelTurn, channelOf}
 use Rattle.channels.specs.Channels.{chansTurn, channelsOf}
+use Rattle.steps.specs.Width.{isCoded}
 use Rattle.rows.specs.Row.{isFlatWidth, isMark, kindOf, early, rowBy, crateStart, crateParts, crateRow}
 use Rattle.reader.specs.Samples.{placed}
 use Rattle.reader.specs.Frame.{stepOf, rowTurn, rowsOf}
@@ -20,5 +21,5 @@ use Rattle.kept.specs.Skies.{Each}
 use Rattle.kept.specs.Shown.{unlit, shown}
 
 pub all-shown : Each shown
-unfolding round size run bytesFrom spread ofUnits mag crateShift crateScale crateUnits peak tooBright bytesOf packedOf upTo past same isFirst lineTurn linesEnd isBlank trimStart trimEnd fieldsAt axesOf unsigned isDigit allDigits valueFrom isNumber isSize sizeOf fieldsOf headChecks headOf fourTo isRepeat crateFlat goesOn flatTurn flatOf isRun spanLength spanBytes spanTaken spanOf crateCount channelTurn channelOf chansTurn channelsOf isFlatWidth isMark kindOf early rowBy crateStart crateParts crateRow unlit placed stepOf rowTurn rowsOf cratePixel readBy
+unfolding round size run bytesFrom spread ofUnits mag crateShift crateScale crateUnits peak tooBright bytesOf packedOf upTo past same isFirst lineTurn linesEnd isBlank trimStart trimEnd fieldsAt axesOf unsigned isDigit allDigits valueFrom isNumber isSize sizeOf fieldsOf headChecks headOf fourTo isRepeat crateFlat goesOn flatTurn flatOf isRun spanLength spanBytes spanTaken spanOf crateCount channelTurn channelOf chansTurn channelsOf isFlatWidth isCoded isMark kindOf early rowBy crateStart crateParts crateRow unlit placed stepOf rowTurn rowsOf cratePixel readBy
 all-shown = (refl, (refl, (refl, (refl, (refl, (refl, (refl, (refl, (refl, (refl, (refl, (refl, (refl, (refl, tt))))))))))))))

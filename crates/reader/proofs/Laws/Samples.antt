@@ -8,7 +8,8 @@ use lib.Ieee.{Float}
 use Rattle.pixel.specs.declared.Pixel.{Pixel}
 use Rattle.pixel.specs.declared.Rgbe.{Rgbe}
 use Rattle.steps.specs.Place.{spread}
-use Rattle.reader.specs.Samples.{SampleRule, rgbeAt, three, placed}
+use Rattle.pixel.specs.Rgbe.{rgbeAt}
+use Rattle.reader.specs.Samples.{SampleRule, three, placed}
 use Rattle.reader.specs.Frame.{along}
 use Rattle.reader.specs.Inner.{samplesFrom}
 

@@ -3,12 +3,14 @@ use Prim.{Unit}
 use Prim.Native.Nat.{ℕ, _+_, _-_, _*_, min, _<_, _≤_}
 use native.Mathlib.Omega.{arith}
 use mathlib.Core.List.{List}
-use mathlib.Core.Bool.{Bool, true, false, _||_}
+use mathlib.Core.Bool.{Bool, true, false, not}
 use mathlib.Core.Path.{_≡_, refl, sym, ap, subst, _∙_}
 use borrow.Author.Tests.{lt-ltb, le-ltb, ltb-false, le-leb, lt-leb, leb-false, eq-eqb, ne-eqb, eqb-true, eqb-false}
 use lib.ListN.{length, getD, set, List·getD-eq-default}
 use lib.Dec.{ltb, leb, eqb}
 use Rattle.steps.specs.Loop.{pick}
+use Rattle.steps.specs.Width.{isCoded}
+use Rattle.steps.proofs.Laws.Width.{coded-widths}
 use Rattle.steps.specs.Place.{bytesFrom, spread}
 use Rattle.steps.proofs.Laws.Turns.{by-test}
 use Rattle.channels.specs.Channel.{crateCount}
@@ -22,23 +24,19 @@ use Rattle.rows.specs.Row.{RowParts, isFlatWidth, isMark, kindOf, restBy
 
 -- ---- The kind of row
 
-pub narrow : (width : ℕ) → width < 8 → true ≡ isFlatWidth width
+pub width-by : (width : ℕ) (b : Bool) → b ≡ isCoded width → not b ≡ isFlatWidth width
 unfolding isFlatWidth
-narrow width h = simp (lt-ltb width 8 h)
+width-by width b e = ap not e
 
-pub not-narrow : (width : ℕ) → 8 ≤ width → ltb 32767 width ≡ isFlatWidth width
-unfolding isFlatWidth
-not-narrow width h = simp (le-ltb width 8 h)
-
-or-left : (a b : Bool) → (a || b) ≡ false → a ≡ false
-or-left true b e = e
-or-left false b e = refl
+by-not : (b : Bool) → not b ≡ false → b ≡ true
+by-not true e = refl
+by-not false e = sym e
 
 -- a width that is not flat leaves room for the first four bytes, and for a flat part after them
 module _ (width : ℕ) (b : Bool) (eb : b ≡ isFlatWidth width) (t : b ≡ false) where
   pub not-flat : 8 ≤ width
   unfolding isFlatWidth
-  not-flat = ltb-false width 8 (or-left (ltb width 8) (ltb 32767 width) (sym eb ∙ t))
+  not-flat = coded-widths width (by-not (isCoded width) (sym eb ∙ t)) .0
 
   pub first-room : (n : ℕ) → 4 * width ≤ n → 4 ≤ n
   first-room n h = let l = not-flat in omega arith

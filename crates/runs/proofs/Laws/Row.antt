@@ -11,15 +11,10 @@ use Rattle.steps.specs.Place.{bytesFrom}
 use Rattle.steps.proofs.Laws.Place.{length-bytes}
 use Rattle.parts.specs.Channel.{code, channel}
 use Rattle.parts.proofs.Laws.Channel.{and-both}
-use Rattle.runs.specs.Row.{isCoded, codedRow, rowOf}
+use Rattle.runs.specs.Row.{codedRow, rowOf}
+use Rattle.steps.specs.Width.{isCoded}
 
 -- ---- the two kinds of row
-
-pub coded-widths : (w : ℕ) → isCoded w ≡ true → (8 ≤ w) × (w ≤ 32767)
-unfolding isCoded
-coded-widths w e =
-    let both = and-both (leb 8 w) (leb w 32767) e in
-    (leb-true 8 w (both .0), leb-true w 32767 (both .1))
 
 pub row-coded : (px : List ℕ) (at w : ℕ) → isCoded w ≡ true → rowOf px at w ≡ codedRow px at w
 unfolding rowOf

@@ -10,7 +10,8 @@ use lib.ListN.{length, getD, replicate, length-append, length-replicate, List·g
 use lib.Seq.{getD-append-add}
 use Rattle.steps.specs.Loop.{pick}
 use Rattle.parts.specs.Channel.{Run, run, grow, cut, bytes, literals, packet, stretch, gather, code, channel}
-use Rattle.runs.specs.Row.{isCoded, rowOf, worstChannel, worstRow}
+use Rattle.runs.specs.Row.{rowOf, worstChannel, worstRow}
+use Rattle.steps.specs.Width.{isCoded}
 use Rattle.parts.proofs.Laws.Channel.{bytes-cut, bytes-append, grow-other, length-literals, gather-short, gather-step, stretch-step}
 use Rattle.parts.proofs.Laws.Places.{length-channel}
 use Rattle.runs.proofs.Laws.Row.{row-coded, flat-size, coded-size}

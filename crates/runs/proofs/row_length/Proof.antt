@@ -3,7 +3,8 @@ use mathlib.Core.Path.{sym, ap, _∙_}
 use native.Mathlib.Omega.{arith}
 use borrow.Author.Needs.{needs}
 use lib.ListN.{length}
-use Rattle.runs.proofs.Laws.Row.{coded-widths, row-coded, flat-size}
+use Rattle.runs.proofs.Laws.Row.{row-coded, flat-size}
+use Rattle.steps.proofs.Laws.Width.{coded-widths}
 use Rattle.runs.proofs.row_length.Statement.{statement}
 use Rattle.runs.proofs.row_length.Tie as tie
 

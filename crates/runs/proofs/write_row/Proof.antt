@@ -4,7 +4,8 @@ use native.Mathlib.Omega.{arith}
 use borrow.Author.Needs.{needs}
 use lib.ListN.{length}
 use Rattle.steps.specs.Place.{spread}
-use Rattle.runs.proofs.Laws.Row.{coded-widths, row-coded, row-flat, flat-size}
+use Rattle.runs.proofs.Laws.Row.{row-coded, row-flat, flat-size}
+use Rattle.steps.proofs.Laws.Width.{coded-widths}
 use Rattle.runs.proofs.write_row.Statement.{statement}
 use Rattle.runs.proofs.write_row.Tie as tie
 

@@ -15,7 +15,8 @@ use Rattle.pixel.specs.Rgbe.{crateShift}
 use Rattle.pixel.proofs.Laws.Scales.{crate-bounds}
 use Rattle.header.specs.Written.{written}
 use Rattle.header.proofs.Laws.Written.{written-length, digits-few}
-use Rattle.runs.specs.Row.{isCoded, rowOf, worstRow}
+use Rattle.runs.specs.Row.{rowOf, worstRow}
+use Rattle.steps.specs.Width.{isCoded}
 use Rattle.runs.proofs.Laws.Worst.{row-worst}
 use Rattle.window.specs.Header.{HeadWithin}
 use Rattle.window.specs.Row.{RowWithin}

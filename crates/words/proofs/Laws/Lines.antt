@@ -42,6 +42,10 @@ pub upTo-on : (b x : ℕ) (xs : List ℕ) → (x ≡ b → ⊥) → upTo b (x �
 unfolding upTo
 upTo-on b x xs e = simp (ne-eqb x b e)
 
+pub past-from : (b : ℕ) (bytes : List ℕ) (at : ℕ) → at ≤ past b bytes at
+unfolding past
+past-from b bytes at = omega arith
+
 pub past-within : (b : ℕ) (bytes : List ℕ) (at : ℕ) → at ≤ length bytes → past b bytes at ≤ length bytes
 unfolding past
 past-within b bytes at h = omega (arith, upTo-bound b (drop at bytes), length-drop at bytes)

@@ -1,13 +1,14 @@
--- `rows::kind::is_flat_width` meets its contract: each `return` is a case of `isFlatWidth`.
-use Rattle.rows.proofs.Laws.Row.{narrow, not-narrow}
+-- `rows::kind::is_flat_width` meets its contract.
+use borrow.Author.Needs.{needs}
+use Rattle.rows.proofs.Laws.Row.{width-by}
 use Rattle.rows.proofs.kind.is_flat_width.Statement.{statement}
 use Rattle.rows.proofs.kind.is_flat_width.Tie as tie
 
-returns : tie.Need-returns
-returns c = search narrow
+is-coded-requires : tie.Need-is-coded-requires
+is-coded-requires c κs = search needs
 
-returns-2 : tie.Need-returns-2
-returns-2 c = search not-narrow
+returns : tie.Need-returns
+returns c = search width-by
 
 pub is-flat-width-spec : {M : Type 1} → statement M
-is-flat-width-spec = tie.close (tie.spec returns returns-2)
+is-flat-width-spec = tie.close (tie.spec is-coded-requires returns)

@@ -1,8 +1,8 @@
--- `runs::is_coded` meets its contract: the test on the way says which case it is.
+-- `steps::is_coded` meets its contract: the test on the way says which case it is.
 use borrow.Author.Tests.{le-leb, lt-leb}
-use Rattle.runs.specs.Row.{isCoded}
-use Rattle.runs.proofs.is_coded.Statement.{statement}
-use Rattle.runs.proofs.is_coded.Tie as tie
+use Rattle.steps.specs.Width.{isCoded}
+use Rattle.steps.proofs.is_coded.Statement.{statement}
+use Rattle.steps.proofs.is_coded.Tie as tie
 
 returns : tie.Need-returns
 unfolding isCoded
