@@ -1,6 +1,6 @@
 """Holds the program sky to answers of its own: compare/sky runs it. Only Python's own library is used.
 
-The reader, the row coder and the light below follow document 01, and share no code with the crates.
+The reader, the row coder and the light below follow docs/RULES.md, and share no code with the crates.
 """
 import glob
 import os
@@ -21,7 +21,7 @@ failures = []
 checked = 0
 
 
-# ---- Document 01, "Rows read"
+# ---- RULES 4: rows read
 
 
 class Short(Exception):
@@ -86,7 +86,7 @@ def read_row(src, at, store, width):
     return at
 
 
-# ---- Document 01, "Rows written"
+# ---- RULES 5: rows written
 
 
 def runs_of(values):
@@ -235,7 +235,7 @@ def stops(name, file, width, height, start):
 
 
 def answer(name, file, width, height, start):
-    """The lines of `info` for a file whose header takes `start` bytes, read by document 01. A refusal's sentence is left open."""
+    """The lines of `info` for a file whose header takes `start` bytes, read by the rules. A refusal's sentence is left open."""
     store, at, survey = bytearray(4 * width), start, Survey()
     for row in range(height):
         try:

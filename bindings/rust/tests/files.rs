@@ -1,4 +1,4 @@
-//! Real bytes through the linked calls. What is expected was worked out by hand from document 01.
+//! Real bytes through the linked calls. What is expected was worked out by hand from docs/RULES.md.
 
 use doorwhisp::{
     pixel_from_bytes, pixel_to_bytes, DecoderOptions, EncoderOptions, HdrDecoder, HdrEncoder,

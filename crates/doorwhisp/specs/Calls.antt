@@ -5,7 +5,7 @@ use mathlib.Core.Path.{_≡_}
 use lib.Ieee.{Float}
 use Rattle.pixel.specs.Rgbe.{crateUnits, pixelOf, packedOf}
 use Rattle.header.specs.Head.{headerOf}
-use Rattle.rows.specs.Row.{crateRow}
+use Rattle.rows_read.specs.Row.{crateRow}
 use Rattle.reader.specs.Read.{outputSize, cratePixel, readBy}
 use Rattle.writer.specs.Write.{lengthOf, length4Of, worstAnswer, writeOf, write4Of, expectedSize}
 use Rattle.numbers.specs.Numbers.{sizes, single, numbers, counted, withOne, withTwo}

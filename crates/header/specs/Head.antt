@@ -1,4 +1,4 @@
--- Document 01: what reading the header answers, with the checks 1 to 5 of "Numbers returned".
+-- What reading the header answers (RULES 3.5 to 3.7), with the checks 1 to 5 (RULES 2.2).
 use Prim.Native.Nat.{ℕ, min}
 use mathlib.Core.Bool.{Bool, true, false, not, _&&_}
 use mathlib.Core.List.{List, [], _∷_}

@@ -1,4 +1,4 @@
--- Document 01, "Header": what reading it answers, and the header as it is written.
+-- The header (RULES 3): what reading it answers, and the header as it is written.
 pub mod Head
 pub mod Inner
 pub mod Written

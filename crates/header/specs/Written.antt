@@ -1,4 +1,4 @@
--- Document 01, "Header": the header as the writer stores it.
+-- The header as the writer stores it (RULES 3.8).
 use Prim.Native.Nat.{ℕ, zero, suc, _+_, _/_, _%_}
 use mathlib.Core.Bool.{true, false}
 use mathlib.Core.List.{List, [], _∷_, _++_}

@@ -6,7 +6,7 @@ use lib.Ieee.{Float}
 use lib.ListN.{length}
 use Rattle.steps.specs.Answer.{done}
 use Rattle.header.specs.declared.Head.{Head}
-use Rattle.rows.specs.Row.{RowRule}
+use Rattle.rows_read.specs.Row.{RowRule}
 use Rattle.reader.specs.Samples.{SampleRule}
 use Rattle.reader.specs.Read.{readBy}
 

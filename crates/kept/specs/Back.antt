@@ -16,14 +16,14 @@ use Rattle.pixel.specs.Rgbe.{peak, rgbeAt}
 use Rattle.loss.specs.Kept.{Numbers, Between, InRange, Lies, step, KeptAll, zeros}
 use Rattle.header.specs.declared.Head.{Head}
 use Rattle.header.specs.Head.{head}
-use Rattle.flat.specs.Flat.{isRepeat}
-use Rattle.rows.specs.Row.{RowRule, crateRow}
+use Rattle.flat_read.specs.Flat.{isRepeat}
+use Rattle.rows_read.specs.Row.{RowRule, crateRow}
 use Rattle.steps.specs.Width.{isCoded}
 use Rattle.reader.specs.Samples.{SampleRule}
 use Rattle.reader.specs.Read.{cratePixel, readBy, paperOf, ReadPromiseBy}
 use Rattle.reader.specs.declared.ReadAnswer.{ReadAnswer}
-use Rattle.frames.specs.Samples.{pixelAt}
-use Rattle.frames.specs.Frame.{frameOf, fileOf}
+use Rattle.frames_written.specs.Samples.{pixelAt}
+use Rattle.frames_written.specs.Frame.{frameOf, fileOf}
 use Rattle.writer.specs.Write.{writeOf, WritePromise, Write4Promise}
 use Rattle.writer.specs.declared.WriteAnswer.the-variants.{Done}
 

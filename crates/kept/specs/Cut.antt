@@ -8,8 +8,8 @@ use Rattle.steps.specs.Loop.{more}
 use Rattle.steps.specs.Answer.{done}
 use Rattle.header.specs.declared.Head.{Head}
 use Rattle.header.specs.Head.{headerOf}
-use Rattle.rows.specs.Row.{crateRow}
-use Rattle.rows.specs.Cut.{CutRow}
+use Rattle.rows_read.specs.Row.{crateRow}
+use Rattle.rows_read.specs.Cut.{CutRow}
 use Rattle.reader.specs.Frame.{Stored, storedOf, cleared, Rows, rows, rowTurn}
 use Rattle.reader.specs.Read.{cratePixel}
 

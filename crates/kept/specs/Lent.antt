@@ -11,7 +11,7 @@ use Rattle.steps.specs.declared.Taken.{Taken}
 use Rattle.steps.specs.declared.Taken.the-variants.{Done, Fault}
 use Rattle.header.specs.declared.Head.{Head}
 use Rattle.header.specs.Head.{headChecks, fieldsOf, headOf}
-use Rattle.rows.specs.Row.{RowRule}
+use Rattle.rows_read.specs.Row.{RowRule}
 use Rattle.pixel.specs.Rgbe.{rgbeAt}
 use Rattle.reader.specs.Samples.{SampleRule}
 use Rattle.reader.specs.Frame.{Stored, storedOf, cleared, Left}

@@ -1,4 +1,4 @@
--- "Each refusal is given exactly when document 01 says": each call's checks, in its order.
+-- Each refusal is given exactly when the rules say (RULES 2.3 to 2.5): each call's checks, in its order.
 use Prim.Native.Nat.{ℕ, _*_}
 use mathlib.Core.List.{List, [], _∷_, _++_}
 use lib.ListN.{length}
@@ -6,12 +6,12 @@ use lib.Dec.{ltb}
 use lib.Ieee.{Float}
 use Rattle.steps.specs.Answer.{Check, check}
 use Rattle.header.specs.Head.{headChecks, fieldsOf, headOf}
-use Rattle.rows.specs.Row.{RowRule}
+use Rattle.rows_read.specs.Row.{RowRule}
 use Rattle.reader.specs.Samples.{SampleRule}
 use Rattle.reader.specs.Frame.{storedOf, cleared, rowsOf, faultOf}
 use Rattle.reader.specs.Read.{frameChecks}
-use Rattle.frames.specs.Samples.{firstBright}
-use Rattle.frames.specs.Frame.{frameOf, fileOf}
+use Rattle.frames_written.specs.Samples.{firstBright}
+use Rattle.frames_written.specs.Frame.{frameOf, fileOf}
 use Rattle.writer.specs.Write as writer
 
 -- the reader, by any rule for a row and for a pixel: 1 to 8 before anything is written, and then the number of the first row at fault, 9 in the crate reading

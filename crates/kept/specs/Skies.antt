@@ -1,4 +1,4 @@
--- Document 01, "Sample skies": the ones marked P, as one table.
+-- The sample skies (RULES 11): the ones marked P, as one table.
 use mathlib.Core.Path.{_≡_}
 use mathlib.Core.Bool.{true, false}
 use mathlib.Core.List.{List, [], _∷_, _++_}
@@ -17,8 +17,8 @@ use Rattle.header.specs.declared.Head.{Head}
 use Rattle.header.specs.Head.{head}
 use Rattle.words.specs.Lines.{rgbeLine, lineFeed, space}
 use Rattle.words.specs.Fields.{minusY, plusX}
-use Rattle.parts.specs.Channel.{code}
-use Rattle.rows.specs.Row.{crateRow}
+use Rattle.channels_written.specs.Channel.{code}
+use Rattle.rows_read.specs.Row.{crateRow}
 use Rattle.reader.specs.Read.{cratePixel, readBy}
 
 -- ---- What a row of the table says

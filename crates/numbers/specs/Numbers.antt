@@ -36,7 +36,7 @@ abbrev pub numbers : {A : Type 0} → (A → Values) → Answer A → List ℕ
 numbers values (done a) = listed (values a)
 numbers values (refused number place) = stopped number place
 
--- a number, or "none", which counts as the refusal 255: the table of document 01 has no such number
+-- a number, or "none", which counts as the refusal 255: the table of refusals (RULES 2.2) has no such number
 abbrev pub counted : Amount → Answer ℕ
 counted (Number n) = done n
 counted None = refuse 255

@@ -11,7 +11,7 @@ use Rattle.steps.specs.Answer.{Answer, done, refused, Check, check}
 use Rattle.steps.specs.declared.Taken.{Taken}
 use Rattle.steps.specs.declared.Taken.the-variants.{Done, Fault}
 use Rattle.header.specs.declared.Head.{Head}
-use Rattle.rows.specs.Row.{RowRule}
+use Rattle.rows_read.specs.Row.{RowRule}
 use Rattle.reader.specs.Samples.{SampleRule, placed}
 
 -- ---- Stored rows

@@ -4,7 +4,7 @@ use mathlib.Core.List.{List, []}
 use lib.Ieee.{Float}
 use Rattle.steps.specs.Answer.{Answer, refuse, checked}
 use Rattle.header.specs.declared.Head.{Head}
-use Rattle.rows.specs.Row.{RowRule}
+use Rattle.rows_read.specs.Row.{RowRule}
 use Rattle.pixel.specs.Rgbe.{rgbeAt}
 use Rattle.reader.specs.Samples.{SampleRule, three}
 use Rattle.reader.specs.Frame.{storedOf, cleared, rowsOf}

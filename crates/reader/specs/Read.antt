@@ -11,7 +11,7 @@ use Rattle.steps.specs.Answer.{Answer, done, refused, refuse, refusalOf, Check,
 use Rattle.pixel.specs.Rgbe.{crateUnits, pixelOf}
 use Rattle.header.specs.declared.Head.{Head}
 use Rattle.header.specs.Head.{headChecks, fieldsOf, headOf, taking}
-use Rattle.rows.specs.Row.{RowRule, crateRow}
+use Rattle.rows_read.specs.Row.{RowRule, crateRow}
 use Rattle.reader.specs.Samples.{SampleRule}
 use Rattle.reader.specs.Frame.{Left, storedOf, cleared, rowsOf}
 use Rattle.reader.specs.declared.ReadAnswer.{ReadAnswer}

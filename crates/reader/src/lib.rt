@@ -12,7 +12,7 @@ ghost use mathlib.Core.Path.{_≡_};
 ghost use Prim.Native.Nat.{_+_, _*_, _≤_};
 ghost use lib.ListN.{length};
 ghost use Rattle.steps.specs.Answer.{refuse};
-ghost use Rattle.rows.specs.Row.{crateRow};
+ghost use Rattle.rows_read.specs.Row.{crateRow};
 ghost use Rattle.reader.specs.Frame.{along, storedOf, stepOf, rowsOf};
 ghost use Rattle.reader.specs.Read.{outputSize, cratePixel, paperOf, framed, ReadPromise};
 ghost use Rattle.reader.specs.Inner.{frameAnswer};
@@ -35,7 +35,7 @@ pub fn step(
     requires { ⌜ (4 * width ≤ length (now store)) × (3 * (first + width) ≤ length (now out)) ⌝ }
     ensures { λ r. ⌜ (r, now (out .exit), now (store .exit)) ≡ stepOf crateRow cratePixel width (along first) (now (bytes .entry)) at (now (out .entry)) (now (store .entry)) ⌝ }
 {
-    let t = rows::read_row(bytes, at, store, width);
+    let t = rows_read::read_row(bytes, at, store, width);
     match t {
         Taken::Done { next } => {
             samples::put_samples(store, out, 3 * first, width);

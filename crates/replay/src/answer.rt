@@ -4,8 +4,8 @@ use crate::names::Name;
 use crate::print;
 use crate::reads;
 use crate::writes;
-use fields::text;
-use fields::text::Pair;
+use text::text;
+use text::text::Pair;
 ghost use Prim.Native.Nat.{_≤_};
 
 // Puts the answer to a line.

@@ -1,8 +1,8 @@
 // The answers of the reader.
 use crate::print;
-use fields::lent;
-use fields::text;
-use fields::text::Pair;
+use text::lent;
+use text::text;
+use text::text::Pair;
 use header::Head;
 use header::HeadAnswer;
 use hex::Number;

@@ -1,8 +1,8 @@
 // The answers of the writer.
 use crate::print;
-use fields::lent;
-use fields::text;
-use fields::text::Step;
+use text::lent;
+use text::text;
+use text::text::Step;
 use hex::Number;
 use steps::amount::Amount;
 use writer::WriteAnswer;

@@ -70,7 +70,7 @@ fn say_returns(number: u8) {
     say::text(b": its lines end with CR LF, and have to end with LF alone\n");
 }
 
-// A row, as document 01 counts them.
+// A row, counted from 0.
 fn say_row(before: &[u8], row: usize) {
     say::text(before);
     say::number(row);

@@ -28,7 +28,7 @@ fn write_row(store: &[u8; 262140], width: usize, room: &mut [u8; 524288], put: u
     requires { ⌜ (width ≤ 65535) × (put ≤ 262144) ⌝ }
     ensures { λ r. ⌜ r ≤ 524288 ⌝ }
 {
-    runs::write_row(store, 0, width, room, put)
+    rows_written::write_row(store, 0, width, room, put)
 }
 
 // Writes the row of the store: the room is written out when it is half full.

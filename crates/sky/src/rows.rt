@@ -21,7 +21,7 @@ fn row_length(store: &[u8; 262140], width: usize) -> usize
     requires { ⌜ width ≤ 65535 ⌝ }
     ensures { λ r. ⌜ r ≤ 262144 ⌝ }
 {
-    runs::row_length(store, 0, width)
+    rows_written::row_length(store, 0, width)
 }
 
 // What the row in the store adds to what was found; the window stands behind it.

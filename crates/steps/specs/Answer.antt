@@ -1,4 +1,4 @@
--- What a call answers by document 01, "Numbers returned": values, or a number and a place; and the checks that come first.
+-- What a call answers (RULES 2.1 and 2.3): values, or a number and a place; and the checks that come first.
 use Prim.Native.Nat.{ℕ}
 use mathlib.Core.Bool.{Bool}
 use mathlib.Core.List.{List, [], _∷_}

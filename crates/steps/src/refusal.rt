@@ -1,4 +1,4 @@
-// The numbers of document 01, "Numbers returned", by name.
+// The numbers of refusals (RULES 2.2), by name.
 
 // What a call that refuses answers: the number, and the row or pixel where the paper names one, else 0.
 pub struct Refusal {

@@ -12,7 +12,7 @@ pub fn any_repeat(store: &[u8], n: usize) -> bool
     let mut i = 0;
     let mut left = n;
     while 0 < left {
-        if flat::is_repeat(store, i) {
+        if flat_read::is_repeat(store, i) {
             return true;
         }
         i += 4;

@@ -7,7 +7,7 @@ use mathlib.Core.Path.{_≡_}
 use lib.ListN.{length}
 use lib.Dec.{leb, eqb}
 use Rattle.steps.specs.Loop.{pick}
-use Rattle.rows.specs.Row.{RowRule, crateRow}
+use Rattle.rows_read.specs.Row.{RowRule, crateRow}
 use Rattle.steps.specs.declared.Taken.{Taken}
 use Rattle.steps.specs.declared.Taken.the-variants as taken
 use Rattle.window.specs.declared.RowPart.{RowPart}

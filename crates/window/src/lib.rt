@@ -67,7 +67,7 @@ pub fn read_row(part: &[u8], more: bool, at: usize, store: &mut [u8], width: usi
     ensures { λ r. ⌜ RowPromise (now (part .entry)) more at (now (store .entry)) width r (now (store .exit)) ⌝ }
     ensures { λ r. ⌜ (at ≤ length (now (part .entry)) → RowWithin (length (now (part .entry))) r) ⌝ }
 {
-    let taken = rows::read_row(part, at, store, width);
+    let taken = rows_read::read_row(part, at, store, width);
     row_part(more, part.len(), taken)
 }
 

@@ -11,8 +11,8 @@ use Rattle.steps.specs.Place.{spread}
 use Rattle.steps.specs.Amount.{amountOf}
 use Rattle.steps.specs.declared.amount.Amount.{Amount}
 use Rattle.steps.specs.Answer.{Answer, done, refused, refuse, refusalOf, Check, check, checked}
-use Rattle.frames.specs.Samples.{firstBright}
-use Rattle.frames.specs.Frame.{frameOf, fileOf, worstOf}
+use Rattle.frames_written.specs.Samples.{firstBright}
+use Rattle.frames_written.specs.Frame.{frameOf, fileOf, worstOf}
 use Rattle.writer.specs.declared.WriteAnswer.{WriteAnswer}
 use Rattle.writer.specs.declared.WriteAnswer.the-variants.{Done, Refused}
 

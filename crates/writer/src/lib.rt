@@ -1,8 +1,8 @@
 // The whole writer, and how long a frame is.
 mod checks;
 
-use frames::frame;
-use frames::samples;
+use frames_written::frame;
+use frames_written::samples;
 use steps::amount;
 use steps::amount::Amount;
 use steps::refusal;

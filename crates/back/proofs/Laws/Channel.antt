@@ -9,9 +9,9 @@ use Rattle.steps.specs.Place.{bytesFrom, spread}
 use Rattle.steps.proofs.Laws.Loop.{Runs, runs-halt}
 use Rattle.steps.specs.declared.Taken.{Taken}
 use Rattle.steps.specs.declared.Taken.the-variants.{Done}
-use Rattle.channels.specs.Channel.{chan, CountRule, channelOf, channelOut, channelTurn}
-use Rattle.channels.proofs.Laws.Channel.{TakesWhole, length-run, length-literals, taken-run, taken-literals, span-run, span-literals, span-again, turn-done, channel-starts}
-use Rattle.parts.specs.Channel.{packet, code}
+use Rattle.channels_read.specs.Channel.{chan, CountRule, channelOf, channelOut, channelTurn}
+use Rattle.channels_read.proofs.Laws.Channel.{TakesWhole, length-run, length-literals, taken-run, taken-literals, span-run, span-literals, span-again, turn-done, channel-starts}
+use Rattle.channels_written.specs.Channel.{packet, code}
 use Rattle.back.proofs.Laws.Coded.{code-by}
 use Rattle.steps.proofs.Laws.Place.{spread-append, drop-next, drop-past, bytes-there}
 

@@ -5,8 +5,8 @@ use mathlib.Core.List.{List, [], _∷_, _++_, append-assoc, append-nil}
 use Prim.Native.Nat.{ℕ, zero, suc, _≤_, min}
 use native.Mathlib.Omega.{arith}
 use lib.ListN.{length, take, drop, replicate, length-take, length-drop, take-append-drop}
-use Rattle.parts.specs.Channel.{Run, run, cut, bytes, literals, packet, stretch, gather, code}
-use Rattle.parts.proofs.Laws.Channel.{bytes-cut, bytes-append, literals-packet, stretch-step, gather-step}
+use Rattle.channels_written.specs.Channel.{Run, run, cut, bytes, literals, packet, stretch, gather, code}
+use Rattle.channels_written.proofs.Laws.Channel.{bytes-cut, bytes-append, literals-packet, stretch-step, gather-step}
 
 -- R p xs: the bytes p stand for the bytes xs of a channel
 module _ (R : List ℕ → List ℕ → Type 0) (none : R [] []) (both : (p q xs ys : List ℕ) → R p xs → R q ys → R (p ++ q) (xs ++ ys))

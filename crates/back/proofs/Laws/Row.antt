@@ -13,20 +13,20 @@ use Rattle.steps.specs.Place.{bytesFrom, spread}
 use Rattle.steps.proofs.Laws.Loop.{Runs}
 use Rattle.steps.specs.declared.Taken.{Taken}
 use Rattle.steps.specs.declared.Taken.the-variants.{Done}
-use Rattle.flat.specs.Flat.{FlatRule, isRepeat, flat, crateFlat, flatOf, flatOut, flatTurn, fourTo}
-use Rattle.rows.specs.Row as read
-use Rattle.flat.proofs.Laws.Flat.{flat-starts, flat-done, flat-ordinary}
-use Rattle.channels.specs.Channel.{CountRule, crateCount}
-use Rattle.channels.specs.Channels.{chans, chansOut, chansTurn, channelsOf}
-use Rattle.channels.proofs.Laws.Channel.{TakesWhole, crate-whole}
-use Rattle.channels.proofs.Laws.Channels.{chans-starts, chans-again, chans-done}
-use Rattle.rows.proofs.Laws.Row.{Marked, mark-by, kind-channels, by-width, by-mark, marked-start}
-use Rattle.parts.specs.Channel.{code, channel}
-use Rattle.runs.specs.Row.{codedRow, rowOf}
+use Rattle.flat_read.specs.Flat.{FlatRule, isRepeat, flat, crateFlat, flatOf, flatOut, flatTurn, fourTo}
+use Rattle.rows_read.specs.Row as read
+use Rattle.flat_read.proofs.Laws.Flat.{flat-starts, flat-done, flat-ordinary}
+use Rattle.channels_read.specs.Channel.{CountRule, crateCount}
+use Rattle.channels_read.specs.Channels.{chans, chansOut, chansTurn, channelsOf}
+use Rattle.channels_read.proofs.Laws.Channel.{TakesWhole, crate-whole}
+use Rattle.channels_read.proofs.Laws.Channels.{chans-starts, chans-again, chans-done}
+use Rattle.rows_read.proofs.Laws.Row.{Marked, mark-by, kind-channels, by-width, by-mark, marked-start}
+use Rattle.channels_written.specs.Channel.{code, channel}
+use Rattle.rows_written.specs.Row.{codedRow, writtenRow}
 use Rattle.steps.specs.Width.{isCoded}
 use Rattle.steps.proofs.Laws.Place.{spread-append, drop-next, drop-past, bytes-there}
-use Rattle.parts.proofs.Laws.Places.{length-channel}
-use Rattle.runs.proofs.Laws.Row.{row-coded, row-flat, flat-size}
+use Rattle.channels_written.proofs.Laws.Places.{length-channel}
+use Rattle.rows_written.proofs.Laws.Row.{row-coded, row-flat, flat-size}
 use Rattle.steps.proofs.Laws.Width.{coded-widths, width-coded}
 use Rattle.back.proofs.Laws.Channel.{ReadAs, code-read}
 use Rattle.back.proofs.Laws.Weave.{bytes-four, weave, early-covered}
@@ -180,18 +180,18 @@ is-flat w e = simp e
 abbrev pub RowsBack : read.RowRule → Type 0
 RowsBack rule =
     (px pre rest store : List ℕ) (p w : ℕ) → (isCoded w ≡ false → NoRepeat px p w)
-    → rule (pre ++ (rowOf px p w ++ rest)) (length pre) store w ≡ (Done (length pre + length (rowOf px p w)), spread 1 store 0 (bytesFrom px p (4 * w)))
+    → rule (pre ++ (writtenRow px p w ++ rest)) (length pre) store w ≡ (Done (length pre + length (writtenRow px p w)), spread 1 store 0 (bytesFrom px p (4 * w)))
 
 pub row-back : (parts : read.RowParts) → Reading parts → RowsBack (read.rowBy parts)
 row-back parts reading px pre rest store p w none = go (isCoded w) refl
   where
     src : List ℕ
-    src = pre ++ (rowOf px p w ++ rest)
+    src = pre ++ (writtenRow px p w ++ rest)
 
-    here : drop (length pre) src ≡ rowOf px p w ++ rest
-    here = drop-append-seam pre (rowOf px p w ++ rest)
+    here : drop (length pre) src ≡ writtenRow px p w ++ rest
+    here = drop-append-seam pre (writtenRow px p w ++ rest)
 
-    go : (t : Bool) → isCoded w ≡ t → read.rowBy parts src (length pre) store w ≡ (Done (length pre + length (rowOf px p w)), spread 1 store 0 (bytesFrom px p (4 * w)))
+    go : (t : Bool) → isCoded w ≡ t → read.rowBy parts src (length pre) store w ≡ (Done (length pre + length (writtenRow px p w)), spread 1 store 0 (bytesFrom px p (4 * w)))
     go true t =
         sym (coded-there parts reading px p w src (length pre) store rest t (here ∙ ap (λ (l : List ℕ). l ++ rest) (row-coded px p w t)))
         ∙ ap (λ (l : List ℕ). (Done (length pre + length l), spread 1 store 0 (bytesFrom px p (4 * w)))) (sym (row-coded px p w t))

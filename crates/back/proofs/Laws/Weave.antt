@@ -6,7 +6,7 @@ use native.Mathlib.Omega.{arith}
 use lib.ListN.{getD, set}
 use lib.Seq.{set-comm}
 use Rattle.steps.specs.Place.{bytesFrom, spread}
-use Rattle.parts.specs.Channel.{channel}
+use Rattle.channels_written.specs.Channel.{channel}
 use Rattle.steps.proofs.Laws.Place.{spread-append}
 
 -- a store before all the places of a spread may come first

@@ -13,9 +13,9 @@ use Rattle.steps.specs.Answer.{Answer, done, refuse}
 use Rattle.steps.proofs.Laws.Answer.{differ, passed-by}
 use Rattle.steps.proofs.Laws.Turns.{by-test, and-left}
 use Rattle.header.specs.Written.{digitsBy, digits, written}
-use Rattle.runs.specs.Row.{worstRow}
+use Rattle.rows_written.specs.Row.{worstRow}
 use Rattle.steps.specs.Width.{isCoded}
-use Rattle.frames.specs.Frame.{worstOf}
+use Rattle.frames_written.specs.Frame.{worstOf}
 use Rattle.writer.specs.Write.{sizeChecks, worstAnswer, LengthPromise, Length4Promise, WorstPromise, WritePromise, Write4Promise}
 use Rattle.writer.specs.declared.WriteAnswer.{WriteAnswer}
 use Rattle.writer.specs.declared.WriteAnswer.the-variants.{Done}

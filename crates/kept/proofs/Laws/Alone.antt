@@ -20,9 +20,9 @@ use Rattle.header.specs.declared.HeadAnswer.the-variants.{Read, Refused}
 use Rattle.header.specs.Head.{fieldsOf, headerOf}
 use Rattle.header.proofs.Laws.Head.{header-taken}
 use Rattle.header.proofs.Laws.Rest.{header-rest}
-use Rattle.rows.specs.Row.{RowRule, crateRow}
-use Rattle.rows.specs.Middle.{Settled, Behind, NonePast}
-use Rattle.rows.proofs.Laws.Behind.{crate-behind, crate-past}
+use Rattle.rows_read.specs.Row.{RowRule, crateRow}
+use Rattle.rows_read.specs.Middle.{Settled, Behind, NonePast}
+use Rattle.rows_read.proofs.Laws.Behind.{crate-behind, crate-past}
 use Rattle.reader.specs.Samples.{SampleRule}
 use Rattle.reader.specs.Frame.{Stored, storedOf, cleared, stepOf, Rows, rows, Left, rowTurn, noRows, rowsOf}
 use Rattle.reader.specs.Read.{frameChecks, framed, answerOf, readBy, cratePixel}

@@ -22,14 +22,14 @@ use Rattle.loss.specs.Kept.{InRange, Lies, step, KeptAll, zeros}
 use Rattle.pixel.proofs.Laws.Digits.{size-gt}
 use Rattle.loss.proofs.Laws.Kept.{kept-at-a-pixel, black-back}
 use Rattle.loss.proofs.Laws.Written.{written-bytes}
-use Rattle.flat.specs.Flat.{isRepeat}
-use Rattle.rows.specs.Row.{RowRule, crateRow}
+use Rattle.flat_read.specs.Flat.{isRepeat}
+use Rattle.rows_read.specs.Row.{RowRule, crateRow}
 use Rattle.back.proofs.Laws.Row.{RowsBack, crate-row-back}
 use Rattle.reader.specs.Samples.{SampleRule}
 use Rattle.reader.specs.Inner.{samplesFrom}
 use Rattle.reader.specs.Read.{cratePixel, readBy}
-use Rattle.frames.specs.Samples.{pixelAt, packed}
-use Rattle.frames.specs.Frame.{fileOf}
+use Rattle.frames_written.specs.Samples.{pixelAt, packed}
+use Rattle.frames_written.specs.Frame.{fileOf}
 use Rattle.kept.specs.Radiance.{isOldRun}
 use Rattle.kept.specs.Back.{pixel, Sizes, AllInRange, Enough, Beyond, NoOnes, ComesBack, ComesBack4}
 use Rattle.kept.proofs.Laws.Samples.{length-samples, pixel-of-samples, bytes-of-pixel}

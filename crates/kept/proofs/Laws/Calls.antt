@@ -16,16 +16,16 @@ use Rattle.steps.proofs.Laws.Answer.{Passed}
 use Rattle.pixel.specs.Rgbe.{peak, tooBright}
 use Rattle.loss.specs.Kept.{Between}
 use Rattle.header.specs.declared.Head.{Head}
-use Rattle.parts.proofs.Laws.Cut.{lt-or-ge}
-use Rattle.rows.specs.Row.{RowRule, crateRow}
+use Rattle.channels_written.proofs.Laws.Cut.{lt-or-ge}
+use Rattle.rows_read.specs.Row.{RowRule, crateRow}
 use Rattle.back.proofs.Laws.Row.{RowsBack, crate-row-back}
 use Rattle.reader.specs.Samples.{SampleRule}
 use Rattle.reader.specs.Read.{cratePixel, readBy, paperOf, ReadPromiseBy}
 use Rattle.reader.specs.declared.ReadAnswer.{ReadAnswer}
-use Rattle.frames.specs.Samples.{firstBright}
-use Rattle.frames.specs.Frame.{frameOf, fileOf}
+use Rattle.frames_written.specs.Samples.{firstBright}
+use Rattle.frames_written.specs.Frame.{frameOf, fileOf}
 use Rattle.writer.specs.Write.{frameChecks, brightChecked, stored, writeOf}
-use Rattle.frames.proofs.Laws.Samples.{first-named}
+use Rattle.frames_written.proofs.Laws.Samples.{first-named}
 use Rattle.writer.proofs.Laws.Told.{Stored, write-told, write4-told}
 use Rattle.kept.specs.Back.{pixel, Sizes, AllInRange, NoOnes, ReadBack, ReadBack4, CallsComeBack, CallsComeBack4, IsWritten}
 use Rattle.kept.proofs.Laws.Back.{PixelsBack, crate-pixels, read-back-by, read-back4-by}

@@ -25,16 +25,16 @@ use Rattle.loss.specs.Kept.{zeros}
 use Rattle.header.specs.declared.Head.{Head}
 use Rattle.header.specs.declared.HeadAnswer.the-variants.{Read}
 use Rattle.header.specs.Head.{taking}
-use Rattle.rows.specs.Row.{crateRow}
-use Rattle.rows.specs.Cut.{behind, CutRow}
-use Rattle.rows.proofs.Laws.Cut.{cutStore, cut-row, cut-exponents}
-use Rattle.parts.proofs.Laws.Cut.{lt-or-ge}
+use Rattle.rows_read.specs.Row.{crateRow}
+use Rattle.rows_read.specs.Cut.{behind, CutRow}
+use Rattle.rows_read.proofs.Laws.Cut.{cutStore, cut-row, cut-exponents}
+use Rattle.channels_written.proofs.Laws.Cut.{lt-or-ge}
 use Rattle.reader.specs.Samples.{SampleRule, three, placed}
 use Rattle.reader.specs.Frame.{Stored, along, storedOf, cleared, stepOf, Rows, rows, Left, rowTurn, noRows, rowsOf}
 use Rattle.reader.specs.Read.{cratePixel, framed, readBy}
 use Rattle.reader.proofs.Laws.Frame.{row-room, went-on, rows-start, rows-cases, rows-again, rows-done}
 use Rattle.reader.proofs.Laws.Read.{frame-rows, read-frame}
-use Rattle.frames.specs.Samples.{pixelAt}
+use Rattle.frames_written.specs.Samples.{pixelAt}
 use Rattle.kept.specs.Back.{pixel}
 use Rattle.kept.specs.Cut.{AfterRows, CutFile}
 

@@ -17,9 +17,9 @@ use Rattle.header.specs.declared.HeadAnswer.the-variants.{Read}
 use Rattle.header.specs.Head.{limit, head, headerOf}
 use Rattle.header.specs.Written.{written}
 use Rattle.back.proofs.Laws.Header.{header-back}
-use Rattle.flat.specs.Flat.{isRepeat}
-use Rattle.rows.specs.Row.{RowRule}
-use Rattle.runs.specs.Row.{rowOf}
+use Rattle.flat_read.specs.Flat.{isRepeat}
+use Rattle.rows_read.specs.Row.{RowRule}
+use Rattle.rows_written.specs.Row.{writtenRow}
 use Rattle.steps.specs.Width.{isCoded}
 use Rattle.back.proofs.Laws.Row.{NoRepeat, RowsBack}
 use Rattle.reader.specs.Samples.{SampleRule}
@@ -28,7 +28,7 @@ use Rattle.reader.specs.Inner.{samplesFrom}
 use Rattle.reader.specs.Read.{answerOf, framed, readBy}
 use Rattle.reader.proofs.Laws.Frame.{row-next, step-done, rows-start, rows-done, rows-again}
 use Rattle.reader.proofs.Laws.Read.{frame-rows, read-frame}
-use Rattle.frames.specs.Frame.{rowsOf, frameOf}
+use Rattle.frames_written.specs.Frame.{writtenRows, frameOf}
 use Rattle.kept.proofs.Laws.Samples.{samples-stored, length-samples, samples-append}
 
 -- none of n pixels is taken for a repeat where rows of w are flat
@@ -72,33 +72,33 @@ module _ (rowRule : RowRule) (rule : SampleRule) (back : RowsBack rowRule) where
     abbrev Gives : ℕ → ℕ → List ℕ → List Float → reader.Left → Type 0
     Gives at row store out a = Runs (reader.rowTurn rowRule rule bytes (reader.storedOf (said w h))) reader.noRows (h - row) (reader.rows at row store out) a
 
-    row-read : (pre store others : List ℕ) (at : ℕ) → Ordinary px at w w → bytes ≡ pre ++ (rowOf px at w ++ others)
-        → (Done (length pre + length (rowOf px at w)), spread 1 store 0 (bytesFrom px at (4 * w))) ≡ rowRule bytes (length pre) store w
+    row-read : (pre store others : List ℕ) (at : ℕ) → Ordinary px at w w → bytes ≡ pre ++ (writtenRow px at w ++ others)
+        → (Done (length pre + length (writtenRow px at w)), spread 1 store 0 (bytesFrom px at (4 * w))) ≡ rowRule bytes (length pre) store w
     row-read pre store others at none e = sym (ap (λ (l : List ℕ). rowRule l (length pre) store w) e ∙ back px pre others store at w none)
 
     -- one row, whose bytes stand after `pre`
     row-there : (row at : ℕ) (pre store others : List ℕ) (out : List Float) (a : reader.Left)
-        → bytes ≡ pre ++ (rowOf px at w ++ others) → Ordinary px at w w → 4 * w ≤ length store → row < h → Gives (length pre) row store out a
-        → Gives (length (pre ++ rowOf px at w)) (row + 1) (spread 1 store 0 (bytesFrom px at (4 * w))) (spread 1 out (3 * (row * w)) (samplesFrom rule px at w)) a
+        → bytes ≡ pre ++ (writtenRow px at w ++ others) → Ordinary px at w w → 4 * w ≤ length store → row < h → Gives (length pre) row store out a
+        → Gives (length (pre ++ writtenRow px at w)) (row + 1) (spread 1 store 0 (bytesFrom px at (4 * w))) (spread 1 out (3 * (row * w)) (samplesFrom rule px at w)) a
     row-there row at pre store others out a e none room more r =
-        let next : ℕ = length pre + length (rowOf px at w) in
+        let next : ℕ = length pre + length (writtenRow px at w) in
         let step = step-done rowRule rule w (row * w) bytes (length pre) out store (Done next) _ (row-read pre store others at none e) next (3 * (row * w)) _ refl refl
         (ap (spread 1 out (3 * (row * w))) (sym (samples-stored rule px store at w room))) in
-        rw (length-append pre (rowOf px at w))
+        rw (length-append pre (writtenRow px at w))
         (rows-again rowRule rule bytes (reader.storedOf (said w h)) (length pre) row store out a r more (Done next) _ _ step next refl)
 
     -- n rows, whose bytes stand after `pre`
     rows-there : (rest : List ℕ) (n row at : ℕ) (pre store : List ℕ) (out : List Float) (a : reader.Left)
-        → bytes ≡ pre ++ (rowsOf px at w n ++ rest) → Ordinary px at w (n * w) → 4 * w ≤ length store → row + n ≡ h → Gives (length pre) row store out a
-        → (a .0 ≡ done (length pre + length (rowsOf px at w n))) × (a .1 ≡ spread 1 out (3 * (row * w)) (samplesFrom rule px at (n * w)))
-    unfolding rowsOf
+        → bytes ≡ pre ++ (writtenRows px at w n ++ rest) → Ordinary px at w (n * w) → 4 * w ≤ length store → row + n ≡ h → Gives (length pre) row store out a
+        → (a .0 ≡ done (length pre + length (writtenRows px at w n))) × (a .1 ≡ spread 1 out (3 * (row * w)) (samplesFrom rule px at (n * w)))
+    unfolding writtenRows
     rows-there rest zero row at pre store out a e none room count r =
         let end = rows-done rowRule rule bytes (reader.storedOf (said w h)) (length pre) row store out a r (omega arith) in
         let size : length pre ≡ length pre + 0 = omega arith in
         (sym (ap (λ (z : reader.Left). z .0) end) ∙ ap done size, sym (ap (λ (z : reader.Left). z .1) end) ∙ no-samples rule px at w (3 * (row * w)) out)
     rows-there rest (suc n) row at pre store out a e none room count r =
-        let this : List ℕ = rowOf px at w in
-        let others : List ℕ = rowsOf px (at + 4 * w) w n in
+        let this : List ℕ = writtenRow px at w in
+        let others : List ℕ = writtenRows px (at + 4 * w) w n in
         let pixels : suc n * w ≡ w + n * w = omega (arith, suc-mul n w) in
         let none′ : Ordinary px at w (w + n * w) = subst (Ordinary px at w) pixels none in
         let here : bytes ≡ pre ++ (this ++ (others ++ rest)) = e ∙ ap (λ (l : List ℕ). pre ++ l) (append-assoc this others rest) in
@@ -115,19 +115,19 @@ module _ (rowRule : RowRule) (rule : SampleRule) (back : RowsBack rowRule) where
     abbrev bytes : List ℕ
     bytes = frameOf px w h ++ rest
 
-    split : bytes ≡ written w h ++ (rowsOf px 0 w h ++ rest)
+    split : bytes ≡ written w h ++ (writtenRows px 0 w h ++ rest)
     unfolding frameOf
-    split = append-assoc (written w h) (rowsOf px 0 w h) rest
+    split = append-assoc (written w h) (writtenRows px 0 w h) rest
 
-    frame-size : length (written w h) + length (rowsOf px 0 w h) ≡ length (frameOf px w h)
+    frame-size : length (written w h) + length (writtenRows px 0 w h) ≡ length (frameOf px w h)
     unfolding frameOf
-    frame-size = sym (length-append (written w h) (rowsOf px 0 w h))
+    frame-size = sym (length-append (written w h) (writtenRows px 0 w h))
 
     module _ (some : 0 < w) (wide : w ≤ limit widest) (high : h ≤ limit highest) (room : h * (3 * w) ≤ length out) (row : 4 * w ≤ length store) where
       by-rows : framed (said w h) (reader.rowsOf rowRule rule bytes (reader.storedOf (said w h)) (length (written w h)) out (reader.cleared w store)) ≡ readBy rowRule rule bytes widest highest out store
       by-rows =
           let header : headerOf bytes widest highest ≡ done (said w h) =
-          ap (λ (l : List ℕ). headerOf l widest highest) split ∙ header-back w h (rowsOf px 0 w h ++ rest) widest highest wide high in
+          ap (λ (l : List ℕ). headerOf l widest highest) split ∙ header-back w h (writtenRows px 0 w h ++ rest) widest highest wide high in
           read-frame rowRule rule bytes widest highest out store (Read (said w h)) (sym header) (said w h) _ refl
           (frame-rows rowRule rule bytes (said w h) out store room (λ e. omega arith) (reader.cleared w store) _ row refl refl)
 

@@ -14,13 +14,13 @@ use Rattle.steps.proofs.Laws.Turns.{by-test}
 use Rattle.header.specs.declared.Head.{Head}
 use Rattle.header.specs.Head.{headChecks, fieldsOf, headOf, headerOf, HeaderPromise}
 use Rattle.header.specs.declared.HeadAnswer.the-variants as header
-use Rattle.rows.specs.Row.{crateRow}
+use Rattle.rows_read.specs.Row.{crateRow}
 use Rattle.reader.specs.Frame.{storedOf, cleared, rowsOf}
 use Rattle.reader.specs.Read.{frameChecks, cratePixel, answerOf, framed, readBy, ReadPromise}
 use Rattle.reader.specs.declared.ReadAnswer.the-variants as read
 use Rattle.reader.proofs.Laws.Read.{rows-number}
-use Rattle.frames.specs.Samples.{firstBright}
-use Rattle.frames.specs.Frame.{frameOf, worstOf, fileOf}
+use Rattle.frames_written.specs.Samples.{firstBright}
+use Rattle.frames_written.specs.Frame.{frameOf, worstOf, fileOf}
 use Rattle.writer.specs.Write as writer
 use Rattle.writer.specs.Write.{sizeChecks, brightChecked, stored, lengthOf, length4Of, worstAnswer, writeOf, write4Of, LengthPromise, Length4Promise, WorstPromise, WritePromise, Write4Promise}
 use Rattle.writer.specs.declared.WriteAnswer.the-variants as write

@@ -19,17 +19,17 @@ use Rattle.steps.proofs.Laws.Answer.{differ, passed, passed-by}
 use Rattle.header.specs.declared.Head.{Head}
 use Rattle.header.specs.Head.{headChecks, headerOf, headOf, fieldsOf, taking}
 use Rattle.header.proofs.Laws.Head.{header-within}
-use Rattle.channels.specs.Channel.{Chan, channelOf, channelOut, channelTurn, crateCount, isRun, spanOf, spanTaken}
-use Rattle.channels.specs.Channels.{Chans, channelsOf, chansOut, chansTurn}
-use Rattle.channels.proofs.Laws.Channel.{channel-cases}
-use Rattle.channels.proofs.Laws.Channels.{chans-cases}
-use Rattle.flat.specs.Repeat.{Rep, repeatOf, repeatOut, repeatTurn}
-use Rattle.flat.specs.Flat.{Flat, crateFlat, flat, flatOf, flatOut, flatTurn, goesOn, isRepeat, ordinary, repeated, stored}
-use Rattle.flat.proofs.Laws.Repeat.{repeat-cases}
-use Rattle.flat.proofs.Laws.Flat.{flat-cases}
-use Rattle.rows.specs.Row.{crateParts, crateRow, crateStart, isFlatWidth, kindOf, restBy, rowBy}
-use Rattle.rows.proofs.Laws.Row.{kind-cases, not-flat}
-use Rattle.rows.proofs.Laws.Bounds.{crate-sound}
+use Rattle.channels_read.specs.Channel.{Chan, channelOf, channelOut, channelTurn, crateCount, isRun, spanOf, spanTaken}
+use Rattle.channels_read.specs.Channels.{Chans, channelsOf, chansOut, chansTurn}
+use Rattle.channels_read.proofs.Laws.Channel.{channel-cases}
+use Rattle.channels_read.proofs.Laws.Channels.{chans-cases}
+use Rattle.flat_read.specs.Repeat.{Rep, repeatOf, repeatOut, repeatTurn}
+use Rattle.flat_read.specs.Flat.{Flat, crateFlat, flat, flatOf, flatOut, flatTurn, goesOn, isRepeat, ordinary, repeated, stored}
+use Rattle.flat_read.proofs.Laws.Repeat.{repeat-cases}
+use Rattle.flat_read.proofs.Laws.Flat.{flat-cases}
+use Rattle.rows_read.specs.Row.{crateParts, crateRow, crateStart, isFlatWidth, kindOf, restBy, rowBy}
+use Rattle.rows_read.proofs.Laws.Row.{kind-cases, not-flat}
+use Rattle.rows_read.proofs.Laws.Bounds.{crate-sound}
 use Rattle.reader.specs.Samples.{SampleRule}
 use Rattle.reader.specs.Frame.{Stored, storedOf, cleared, stepOf, Rows, Left, rowTurn, noRows, rowsOf}
 use Rattle.reader.specs.Read.{answerOf, framed, frameChecks, readBy}

@@ -22,10 +22,10 @@ use Rattle.steps.proofs.Laws.Place.{length-spread}
 use Rattle.pixel.specs.declared.Pixel.{Pixel}
 use Rattle.header.specs.declared.Head.{Head}
 use Rattle.header.specs.Head.{headChecks, fieldsOf, headOf, taking}
-use Rattle.parts.proofs.Laws.Cut.{lt-or-ge}
-use Rattle.rows.specs.Row.{RowRule, crateRow}
-use Rattle.rows.proofs.Laws.Kept.{Kept, kept-same, kept-then, kept-spread}
-use Rattle.rows.proofs.Laws.Bounds.{SoundRow, crate-sound}
+use Rattle.channels_written.proofs.Laws.Cut.{lt-or-ge}
+use Rattle.rows_read.specs.Row.{RowRule, crateRow}
+use Rattle.rows_read.proofs.Laws.Kept.{Kept, kept-same, kept-then, kept-spread}
+use Rattle.rows_read.proofs.Laws.Bounds.{SoundRow, crate-sound}
 use Rattle.pixel.specs.Rgbe.{rgbeAt}
 use Rattle.reader.specs.Samples.{SampleRule, three, placed}
 use Rattle.reader.specs.Frame.{Stored, storedOf, cleared, stepOf, Left, rows, rowTurn, noRows, rowsOf}

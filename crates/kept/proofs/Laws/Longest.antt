@@ -14,12 +14,12 @@ use Rattle.steps.specs.Loop.{pick}
 use Rattle.steps.specs.Answer.{Answer, done, refused, refuse, Check, checked}
 use Rattle.steps.proofs.Laws.Answer.{differ, passed-by}
 use Rattle.header.specs.Written.{written}
-use Rattle.runs.specs.Row.{worstRow}
+use Rattle.rows_written.specs.Row.{worstRow}
 use Rattle.steps.specs.Width.{isCoded}
-use Rattle.parts.proofs.Laws.Channel.{and-no}
-use Rattle.frames.proofs.Laws.Frame.{frame-worst}
-use Rattle.frames.specs.Samples.{packed, firstBright}
-use Rattle.frames.specs.Frame.{worstOf}
+use Rattle.channels_written.proofs.Laws.Channel.{and-no}
+use Rattle.frames_written.proofs.Laws.Frame.{frame-worst}
+use Rattle.frames_written.specs.Samples.{packed, firstBright}
+use Rattle.frames_written.specs.Frame.{worstOf}
 use Rattle.writer.specs.Write.{frameChecks, brightChecked, lengthOf, length4Of}
 use Rattle.kept.specs.Longest.{flatWorst, codedWorst}
 

@@ -13,13 +13,13 @@ use Rattle.steps.specs.Numbered.{numberOf, firstOf, Exactly}
 use Rattle.steps.proofs.Laws.Numbered.{number-checked, first-append, exactly, checked-of}
 use Rattle.header.specs.declared.Head.{Head}
 use Rattle.header.specs.Head.{headChecks, headerOf, fieldsOf, headOf}
-use Rattle.rows.specs.Row.{RowRule, crateRow}
+use Rattle.rows_read.specs.Row.{RowRule, crateRow}
 use Rattle.reader.specs.Samples.{SampleRule}
 use Rattle.reader.specs.Frame.{Stored, storedOf, cleared, rowsOf, faultOf}
 use Rattle.reader.specs.Read.{frameChecks, answerOf, framed, cratePixel, readBy}
 use Rattle.reader.proofs.Laws.Read.{rows-number}
-use Rattle.frames.specs.Samples.{firstBright}
-use Rattle.frames.specs.Frame.{frameOf, worstOf, fileOf}
+use Rattle.frames_written.specs.Samples.{firstBright}
+use Rattle.frames_written.specs.Frame.{frameOf, worstOf, fileOf}
 use Rattle.writer.specs.Write as writer
 use Rattle.writer.specs.Write.{sizeChecks, brightChecked, stored, lengthOf, length4Of, worstAnswer, writeOf, write4Of}
 use Rattle.kept.specs.Numbered.{readChecks, lengthChecks, writeChecks, write4Checks}

@@ -6,12 +6,12 @@ use lib.ListN.{replicate}
 use Rattle.steps.specs.Loop.{run}
 use Rattle.steps.specs.Place.{bytesFrom, spread}
 use Rattle.steps.specs.declared.Taken.the-variants.{Done, Fault}
-use Rattle.channels.specs.Channel.{channelOf, channelTurn, crateCount, isRun, spanBytes, spanLength, spanOf, spanTaken}
-use Rattle.flat.specs.Repeat.{copied, lasts, repeatOf, repeatTurn}
-use Rattle.flat.specs.Flat.{crateFlat, flatOf, flatTurn, fourTo, goesOn, isRepeat, repeated}
-use Rattle.channels.specs.Channels.{channelsOf, chansTurn}
+use Rattle.channels_read.specs.Channel.{channelOf, channelTurn, crateCount, isRun, spanBytes, spanLength, spanOf, spanTaken}
+use Rattle.flat_read.specs.Repeat.{copied, lasts, repeatOf, repeatTurn}
+use Rattle.flat_read.specs.Flat.{crateFlat, flatOf, flatTurn, fourTo, goesOn, isRepeat, repeated}
+use Rattle.channels_read.specs.Channels.{channelsOf, chansTurn}
 use Rattle.steps.specs.Width.{isCoded}
-use Rattle.rows.specs.Row.{isFlatWidth, isMark, kindOf, early, rowBy, crateStart, crateParts, crateRow}
+use Rattle.rows_read.specs.Row.{isFlatWidth, isMark, kindOf, early, rowBy, crateStart, crateParts, crateRow}
 use Rattle.kept.specs.Radiance.{rgbe, isOver, span, spans, components, past, coded, isOldRun, meaning, flatFrom, flat, flatBytes}
 
 -- ---- Old runs

@@ -11,8 +11,8 @@ use lib.ListN.{length, take, drop, replicate, length-append, length-replicate, l
 use Rattle.steps.specs.Loop.{pick}
 use Rattle.steps.proofs.Laws.Turns.{and-left, and-right, by-test}
 use Rattle.steps.specs.declared.Taken.{Taken}
-use Rattle.channels.specs.Channel.{CountRule}
-use Rattle.channels.proofs.Laws.Channel.{TakesWhole}
+use Rattle.channels_read.specs.Channel.{CountRule}
+use Rattle.channels_read.proofs.Laws.Channel.{TakesWhole}
 use Rattle.back.proofs.Laws.Channel.{Reads, reads-none, reads-both, reads-run, reads-packet, ReadAs, read-as}
 use Rattle.kept.specs.Radiance.{Found, after, andThen, isOver, span, spans, component}
 

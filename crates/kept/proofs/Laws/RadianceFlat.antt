@@ -13,12 +13,12 @@ use Rattle.steps.specs.Place.{bytesFrom, spread}
 use Rattle.steps.proofs.Laws.Place.{drop-next}
 use Rattle.pixel.specs.declared.Rgbe.{Rgbe}
 use Rattle.steps.specs.declared.Taken.the-variants.{Done}
-use Rattle.flat.specs.Flat.{FlatRule, isRepeat, crateFlat, flatOf}
+use Rattle.flat_read.specs.Flat.{FlatRule, isRepeat, crateFlat, flatOf}
 use Rattle.steps.proofs.Laws.Width.{width-narrow, width-wide}
-use Rattle.rows.specs.Row.{isFlatWidth, isMark, crateStart, crateRow}
-use Rattle.flat.proofs.Laws.Flat.{flat-starts}
-use Rattle.rows.proofs.Laws.Row.{mark-not, kind-flat, kind-pixel, early-other, early-two, start-flat, start-pixel, row-by-width, row-flat, row-pixel}
-use Rattle.parts.proofs.Laws.Channel.{and-no}
+use Rattle.rows_read.specs.Row.{isFlatWidth, isMark, crateStart, crateRow}
+use Rattle.flat_read.proofs.Laws.Flat.{flat-starts}
+use Rattle.rows_read.proofs.Laws.Row.{mark-not, kind-flat, kind-pixel, early-other, early-two, start-flat, start-pixel, row-by-width, row-flat, row-pixel}
+use Rattle.channels_written.proofs.Laws.Channel.{and-no}
 use Rattle.back.proofs.Laws.Row.{NoRepeat, coded-width, flat-there}
 use Rattle.kept.specs.Radiance.{after, isOldRun, Meaning, meaning, onward, flatFrom, flat, flatBytes, NoOldRun}
 use Rattle.kept.proofs.Laws.RadianceRows.{RowReads, all-bytes, behind}

@@ -14,8 +14,8 @@ use Rattle.steps.proofs.Laws.Place.{bytes-there}
 use Rattle.steps.proofs.Laws.Turns.{and-left, and-right}
 use Rattle.pixel.specs.declared.Rgbe.{Rgbe}
 use Rattle.steps.specs.declared.Taken.the-variants.{Done}
-use Rattle.rows.specs.Row.{RowRule, RowParts, rowBy, crateParts, crateRow}
-use Rattle.parts.specs.Channel.{channel}
+use Rattle.rows_read.specs.Row.{RowRule, RowParts, rowBy, crateParts, crateRow}
+use Rattle.channels_written.specs.Channel.{channel}
 use Rattle.back.proofs.Laws.Channel.{ReadAs}
 use Rattle.back.proofs.Laws.Row.{FourRead, Reading, marked-there, crate-reading}
 use Rattle.kept.specs.Radiance.{component, pixels, components, mark, past, coded, flatBytes}

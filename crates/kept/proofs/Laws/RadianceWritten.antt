@@ -13,14 +13,14 @@ use lib.Seq.{take-append-seam, drop-append-seam}
 use Rattle.steps.specs.Loop.{pick}
 use Rattle.steps.specs.Place.{bytesFrom}
 use Rattle.pixel.specs.declared.Rgbe.{Rgbe}
-use Rattle.parts.specs.Channel.{packet, code, channel}
-use Rattle.flat.specs.Flat.{isRepeat}
+use Rattle.channels_written.specs.Channel.{packet, code, channel}
+use Rattle.flat_read.specs.Flat.{isRepeat}
 use Rattle.steps.proofs.Laws.Place.{length-bytes}
-use Rattle.runs.specs.Row.{codedRow, rowOf}
+use Rattle.rows_written.specs.Row.{codedRow, writtenRow}
 use Rattle.steps.specs.Width.{isCoded}
 use Rattle.back.proofs.Laws.Coded.{code-by}
-use Rattle.parts.proofs.Laws.Places.{length-channel}
-use Rattle.runs.proofs.Laws.Row.{row-coded, row-flat}
+use Rattle.channels_written.proofs.Laws.Places.{length-channel}
+use Rattle.rows_written.proofs.Laws.Row.{row-coded, row-flat}
 use Rattle.back.proofs.Laws.Row.{NoRepeat}
 use Rattle.back.proofs.Laws.Weave.{bytes-four}
 use Rattle.kept.specs.Radiance.{rgbe, Found, after, andThen, isOver, span, spans, component, pixels, components, mark, past, coded, isOldRun, flat, flatBytes, NoOldRun}
@@ -163,7 +163,7 @@ coded-found px at w rest t =
     ∙ components-found w (channel px at w) (channel px (at + 1) w) (channel px (at + 2) w) (channel px (at + 3) w) (c at) (c (at + 1)) (c (at + 2)) (c (at + 3)) rest (is at) (is (at + 1)) (is (at + 2)) (is (at + 3)))
 
 -- a row written at widths 8 to 32,767 is the new run-length scanline of its pixels
-pub coded-written : (px : List ℕ) (at w : ℕ) (rest : List ℕ) → isCoded w ≡ true → coded w (rowOf px at w ++ rest) ≡ some (rowPixels px at w, rest)
+pub coded-written : (px : List ℕ) (at w : ℕ) (rest : List ℕ) → isCoded w ≡ true → coded w (writtenRow px at w ++ rest) ≡ some (rowPixels px at w, rest)
 coded-written px at w rest t = ap (λ (l : List ℕ). coded w (l ++ rest)) (row-coded px at w t) ∙ coded-found px at w rest t
 
 -- ---- A flat row
@@ -178,7 +178,7 @@ no-old-run px at (suc n) plain =
     (ap (isRepeat px) (sym first) ∙ plain 0 (omega arith), no-old-run px (at + 4) n (λ i h. ap (isRepeat px) (sym (next i)) ∙ plain (suc i) (omega arith)))
 
 -- a row written at other widths is the flat scanline of its pixels, if none is a 1,1,1,n
-pub flat-written : (px : List ℕ) (at w : ℕ) (rest : List ℕ) → isCoded w ≡ false → NoRepeat px at w → flat w (rowOf px at w ++ rest) ≡ some (rowPixels px at w, rest)
+pub flat-written : (px : List ℕ) (at w : ℕ) (rest : List ℕ) → isCoded w ≡ false → NoRepeat px at w → flat w (writtenRow px at w ++ rest) ≡ some (rowPixels px at w, rest)
 flat-written px at w rest t plain =
     let qs : List Rgbe = rowPixels px at w in
     let size : w ≡ length qs = omega (arith, length-flat qs, ap length (row-bytes px at w), length-bytes px at (4 * w)) in

@@ -16,10 +16,10 @@ use Rattle.pixel.specs.declared.Pixel.{Pixel}
 use Rattle.pixel.specs.Units.{mag}
 use Rattle.pixel.specs.Rgbe.{peak, tooBright, bytesOf}
 use Rattle.header.specs.Written.{written}
-use Rattle.runs.specs.Row.{rowOf, worstRow}
-use Rattle.runs.proofs.Laws.Worst.{pixels, row-reached}
-use Rattle.frames.specs.Samples.{pixelAt, four, packed, firstBright}
-use Rattle.frames.specs.Frame.{rowsOf, frameOf, worstOf, fileOf}
+use Rattle.rows_written.specs.Row.{writtenRow, worstRow}
+use Rattle.rows_written.proofs.Laws.Worst.{pixels, row-reached}
+use Rattle.frames_written.specs.Samples.{pixelAt, four, packed, firstBright}
+use Rattle.frames_written.specs.Frame.{writtenRows, frameOf, worstOf, fileOf}
 use Rattle.writer.specs.Write.{frameChecks, brightChecked, lengthOf}
 use Rattle.kept.specs.Longest.{one, twoAndAHalf, inTurn, checkered}
 
@@ -56,8 +56,8 @@ unlike-after (suc n) p q u = unlike-after n q p (swapped p q u)
 
 -- ---- Every row is as long as a row can be
 
-rows-reached : (h w : ℕ) (p q pre : List ℕ) → Unlike p q → length (rowsOf (pre ++ pixels p q (h * w)) (length pre) w h) ≡ h * worstRow w
-unfolding rowsOf
+rows-reached : (h w : ℕ) (p q pre : List ℕ) → Unlike p q → length (writtenRows (pre ++ pixels p q (h * w)) (length pre) w h) ≡ h * worstRow w
+unfolding writtenRows
 rows-reached zero w p q pre u = sym (zero-mul (worstRow w))
 rows-reached (suc h) w p q pre u =
     let row : List ℕ = pixels p q w in
@@ -65,11 +65,11 @@ rows-reached (suc h) w p q pre u =
     let split : pre ++ pixels p q (suc h * w) ≡ pre ++ (row ++ rest) =
     ap (λ (l : List ℕ). pre ++ l) (ap (pixels p q) (suc-mul h w ∙ add-comm (h * w) w) ∙ pixels-split p q w (h * w)) in
     let place : length pre + 4 * w ≡ length (pre ++ row) = omega (arith, length-append pre row, length-pixels p q w (u .first) (u .second)) in
-    let next : length (rowsOf ((pre ++ row) ++ rest) (length (pre ++ row)) w h) ≡ h * worstRow w = rows-reached h w (after w p q) (after w q p) (pre ++ row) (unlike-after w p q u) in
-    let moved : length (rowsOf (pre ++ (row ++ rest)) (length pre + 4 * w) w h) ≡ h * worstRow w = rw (place, ← append-assoc pre row rest) next in
-    let here : length (rowOf (pre ++ (row ++ rest)) (length pre) w) ≡ worstRow w = row-reached p q pre rest w (u .first) (u .second) (u .differ) in
-    ap (λ (l : List ℕ). length (rowOf l (length pre) w ++ rowsOf l (length pre + 4 * w) w h)) split
-    ∙ length-append (rowOf (pre ++ (row ++ rest)) (length pre) w) (rowsOf (pre ++ (row ++ rest)) (length pre + 4 * w) w h)
+    let next : length (writtenRows ((pre ++ row) ++ rest) (length (pre ++ row)) w h) ≡ h * worstRow w = rows-reached h w (after w p q) (after w q p) (pre ++ row) (unlike-after w p q u) in
+    let moved : length (writtenRows (pre ++ (row ++ rest)) (length pre + 4 * w) w h) ≡ h * worstRow w = rw (place, ← append-assoc pre row rest) next in
+    let here : length (writtenRow (pre ++ (row ++ rest)) (length pre) w) ≡ worstRow w = row-reached p q pre rest w (u .first) (u .second) (u .differ) in
+    ap (λ (l : List ℕ). length (writtenRow l (length pre) w ++ writtenRows l (length pre + 4 * w) w h)) split
+    ∙ length-append (writtenRow (pre ++ (row ++ rest)) (length pre) w) (writtenRows (pre ++ (row ++ rest)) (length pre + 4 * w) w h)
     ∙ omega (arith, here, moved, suc-mul h (worstRow w))
 
 -- ---- The samples as four-byte pixels
@@ -155,7 +155,7 @@ module _ (w h : ℕ) (some : 0 < w) (wide : w ≤ 65535) (high : h ≤ 65535) wh
   file-reached =
       let bytes-are : packed (checkered w h) 0 (w * h) ≡ pixels dim lit (h * w) =
       packed-turn (w * h) one twoAndAHalf [] ∙ rw (dim-bytes, lit-bytes) (ap (pixels dim lit) (mul-comm w h)) in
-      length-append (written w h) (rowsOf (packed (checkered w h) 0 (w * h)) 0 w h)
+      length-append (written w h) (writtenRows (packed (checkered w h) 0 (w * h)) 0 w h)
       ∙ ap (λ (n : ℕ). length (written w h) + n) (rw bytes-are (rows-reached h w dim lit [] unlike))
 
   checks-pass : Passed (frameChecks w h (length (checkered w h)) 3)

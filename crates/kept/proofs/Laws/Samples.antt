@@ -15,7 +15,7 @@ use Rattle.pixel.specs.declared.Rgbe.{Rgbe}
 use Rattle.pixel.specs.Rgbe.{bytesOf, rgbeAt}
 use Rattle.reader.specs.Samples.{SampleRule, three}
 use Rattle.reader.specs.Inner.{samplesFrom}
-use Rattle.frames.specs.Samples.{pixelAt, four, packed}
+use Rattle.frames_written.specs.Samples.{pixelAt, four, packed}
 
 -- ---- Bytes that agree
 

@@ -11,7 +11,7 @@ use Rattle.pixel.specs.Units.{mag}
 use Rattle.pixel.specs.Rgbe.{crateUnits, pixelOf, peak, bytesOf}
 use Rattle.loss.specs.Kept.{Kept, Lies, step}
 use Rattle.loss.proofs.Laws.Sharp.{next-dark, too-bright}
-use Rattle.rows.specs.Row.{crateRow}
+use Rattle.rows_read.specs.Row.{crateRow}
 use Rattle.reader.specs.Read.{cratePixel}
 use Rattle.kept.specs.Back.{pixel, Sizes, Enough, ComesBack, nextBelow, firstAbove, oneRed, Lost}
 use Rattle.kept.proofs.Laws.Back.{pixels-back}

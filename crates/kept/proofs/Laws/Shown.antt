@@ -9,11 +9,11 @@ use Rattle.words.specs.Lines.{upTo, past, same, isFirst, lineTurn, linesEnd}
 use Rattle.words.specs.Fields.{isBlank, trimStart, trimEnd, fieldsAt, axesOf}
 use Rattle.words.specs.Sizes.{unsigned, isDigit, allDigits, valueFrom, isNumber, isSize, sizeOf}
 use Rattle.header.specs.Head.{fieldsOf, headChecks, headOf}
-use Rattle.flat.specs.Flat.{fourTo, isRepeat, crateFlat, goesOn, flatTurn, flatOf}
-use Rattle.channels.specs.Channel.{isRun, spanLength, spanBytes, spanTaken, spanOf, crateCount, channelTurn, channelOf}
-use Rattle.channels.specs.Channels.{chansTurn, channelsOf}
+use Rattle.flat_read.specs.Flat.{fourTo, isRepeat, crateFlat, goesOn, flatTurn, flatOf}
+use Rattle.channels_read.specs.Channel.{isRun, spanLength, spanBytes, spanTaken, spanOf, crateCount, channelTurn, channelOf}
+use Rattle.channels_read.specs.Channels.{chansTurn, channelsOf}
 use Rattle.steps.specs.Width.{isCoded}
-use Rattle.rows.specs.Row.{isFlatWidth, isMark, kindOf, early, rowBy, crateStart, crateParts, crateRow}
+use Rattle.rows_read.specs.Row.{isFlatWidth, isMark, kindOf, early, rowBy, crateStart, crateParts, crateRow}
 use Rattle.reader.specs.Samples.{placed}
 use Rattle.reader.specs.Frame.{stepOf, rowTurn, rowsOf}
 use Rattle.reader.specs.Read.{cratePixel, readBy}

@@ -10,11 +10,11 @@ use Rattle.words.specs.Lines.{upTo, past, same, isFirst, lineTurn, linesEnd}
 use Rattle.words.specs.Fields.{isBlank, trimStart, trimEnd, fieldsAt, axesOf}
 use Rattle.words.specs.Sizes.{unsigned, isDigit, allDigits, valueFrom, isNumber, isSize, sizeOf}
 use Rattle.header.specs.Head.{fieldsOf, headChecks, headOf}
-use Rattle.flat.specs.Repeat.{lasts, copied, repeatTurn, repeatOf}
-use Rattle.flat.specs.Flat.{fourTo, isRepeat, repeated, crateFlat, goesOn, flatTurn, flatOf}
+use Rattle.flat_read.specs.Repeat.{lasts, copied, repeatTurn, repeatOf}
+use Rattle.flat_read.specs.Flat.{fourTo, isRepeat, repeated, crateFlat, goesOn, flatTurn, flatOf}
 use Rattle.steps.specs.Width.{isCoded}
-use Rattle.rows.specs.Row.{isFlatWidth, rowBy, crateParts, crateRow}
-use Rattle.parts.specs.Channel.{grow, cut, stretch, gather, code}
+use Rattle.rows_read.specs.Row.{isFlatWidth, rowBy, crateParts, crateRow}
+use Rattle.channels_written.specs.Channel.{grow, cut, stretch, gather, code}
 use Rattle.reader.specs.Samples.{placed}
 use Rattle.reader.specs.Frame.{stepOf, rowTurn, rowsOf}
 use Rattle.reader.specs.Read.{cratePixel, readBy}

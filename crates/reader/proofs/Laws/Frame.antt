@@ -16,7 +16,7 @@ use Rattle.steps.specs.declared.Taken.{Taken}
 use Rattle.steps.specs.declared.Taken.the-variants.{Done, Fault}
 use Rattle.steps.proofs.Laws.Loop.{Runs, runs-start, runs-more, runs-halt}
 use Rattle.steps.proofs.Laws.Turns.{by-test, Leads, run-keeps, Falls, never-out}
-use Rattle.rows.specs.Row.{RowRule}
+use Rattle.rows_read.specs.Row.{RowRule}
 use Rattle.reader.specs.Samples.{SampleRule, placed}
 use Rattle.reader.specs.Frame.{Stored, along, stepped, stepOf, Rows, rows, Left, afterStep, rowTurn, noRows, rowsOf}
 use Rattle.reader.specs.Inner.{samplesFrom}

@@ -17,8 +17,8 @@ use Rattle.header.specs.declared.Head.{Head}
 use Rattle.header.specs.declared.HeadAnswer.{HeadAnswer}
 use Rattle.header.specs.declared.HeadAnswer.the-variants.{Read, Refused}
 use Rattle.header.proofs.Laws.Head.{header-limits}
-use Rattle.rows.specs.Row.{RowRule, crateRow}
-use Rattle.rows.proofs.Laws.Nine.{crate-nine}
+use Rattle.rows_read.specs.Row.{RowRule, crateRow}
+use Rattle.rows_read.proofs.Laws.Nine.{crate-nine}
 use Rattle.steps.specs.declared.Taken.{Taken}
 use Rattle.steps.specs.declared.Taken.the-variants.{Done, Fault}
 use Rattle.reader.specs.Samples.{SampleRule}

@@ -5,7 +5,7 @@ use Prim.Native.Nat.{_*_, _-_}
 use native.Mathlib.Omega.{arith}
 use lib.ListN.{length}
 use Rattle.steps.proofs.Laws.Loop.{Runs}
-use Rattle.rows.specs.Row.{crateRow}
+use Rattle.rows_read.specs.Row.{crateRow}
 use Rattle.reader.specs.Frame.{storedOf, rows, rowTurn, noRows, rowsOf}
 use Rattle.reader.specs.Read.{cratePixel}
 use Rattle.reader.proofs.Laws.Frame.{rows-start, row-room, row-next}

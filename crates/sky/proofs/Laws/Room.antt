@@ -15,9 +15,9 @@ use Rattle.pixel.specs.Rgbe.{crateShift}
 use Rattle.pixel.proofs.Laws.Scales.{crate-bounds}
 use Rattle.header.specs.Written.{written}
 use Rattle.header.proofs.Laws.Written.{written-length, digits-few}
-use Rattle.runs.specs.Row.{rowOf, worstRow}
+use Rattle.rows_written.specs.Row.{writtenRow, worstRow}
 use Rattle.steps.specs.Width.{isCoded}
-use Rattle.runs.proofs.Laws.Worst.{row-worst}
+use Rattle.rows_written.proofs.Laws.Worst.{row-worst}
 use Rattle.window.specs.Header.{HeadWithin}
 use Rattle.window.specs.Row.{RowWithin}
 use Rattle.window.specs.declared.head.HeadPart.{HeadPart}
@@ -35,11 +35,11 @@ worst-small w h =
     (λ t. omega arith)
 
 module _ (px : List ℕ) (at w : ℕ) (h : w ≤ 65535) where
-  pub row-small : (n : ℕ) → n ≡ length (rowOf px at w) → n ≤ 262144
+  pub row-small : (n : ℕ) → n ≡ length (writtenRow px at w) → n ≤ 262144
   row-small n e = omega (arith, row-worst px at w, worst-small w h)
 
-  pub row-half : length (rowOf px at w) ≤ 262144
-  row-half = row-small (length (rowOf px at w)) refl
+  pub row-half : length (writtenRow px at w) ≤ 262144
+  row-half = row-small (length (writtenRow px at w)) refl
 
 -- ---- The header as it is written
 

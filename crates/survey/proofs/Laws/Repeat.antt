@@ -5,7 +5,7 @@ use mathlib.Core.List.{List}
 use mathlib.Core.Path.{_≡_, sym, _∙_}
 use native.Mathlib.Nat.{not-suc-le-zero}
 use native.Mathlib.Omega.{arith}
-use Rattle.flat.specs.Flat.{isRepeat}
+use Rattle.flat_read.specs.Flat.{isRepeat}
 use Rattle.survey.specs.Repeat.{anyRepeat}
 
 module _ (store : List ℕ) (i : ℕ) (w b : Bool) (eb : b ≡ isRepeat store i) where

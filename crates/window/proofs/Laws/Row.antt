@@ -9,11 +9,11 @@ use borrow.Author.Tests.{leb-false, eqb-false}
 use lib.ListN.{length}
 use lib.Dec.{leb, eqb}
 use Rattle.steps.proofs.Laws.Turns.{by-test}
-use Rattle.rows.specs.Row.{RowRule, crateRow}
-use Rattle.rows.specs.Middle.{Settled, later, Before, Behind}
-use Rattle.rows.proofs.Laws.Bounds.{row-onward, crate-sound}
-use Rattle.rows.proofs.Laws.Before.{anywhere, crate-before}
-use Rattle.rows.proofs.Laws.Behind.{crate-behind}
+use Rattle.rows_read.specs.Row.{RowRule, crateRow}
+use Rattle.rows_read.specs.Middle.{Settled, later, Before, Behind}
+use Rattle.rows_read.proofs.Laws.Bounds.{row-onward, crate-sound}
+use Rattle.rows_read.proofs.Laws.Before.{anywhere, crate-before}
+use Rattle.rows_read.proofs.Laws.Behind.{crate-behind}
 use Rattle.steps.specs.declared.Taken.{Taken}
 use Rattle.steps.specs.declared.Taken.the-variants as taken
 use Rattle.window.specs.declared.RowPart.{RowPart}

@@ -12,12 +12,12 @@ use Rattle.steps.specs.Answer.{Answer, done, refused, refuse}
 use Rattle.steps.specs.declared.amount.Amount.{Amount}
 use Rattle.steps.proofs.Laws.Answer.{Passed, passed-by, differ, pass, callOf, one-answer}
 use Rattle.steps.proofs.Laws.Place.{spread-front}
-use Rattle.frames.specs.Samples.{firstBright, FirstBright}
-use Rattle.frames.specs.Frame.{frameOf, fileOf}
+use Rattle.frames_written.specs.Samples.{firstBright, FirstBright}
+use Rattle.frames_written.specs.Frame.{frameOf, fileOf}
 use Rattle.writer.specs.Write.{frameChecks, brightChecked, Left, stored, lengthOf, length4Of, writeOf, write4Of, paperOf, LengthPromise, Length4Promise, WorstPromise, WritePromise, Write4Promise, ExpectedPromise}
 use Rattle.writer.specs.declared.WriteAnswer.{WriteAnswer}
 use Rattle.writer.specs.declared.WriteAnswer.the-variants.{Done, Refused}
-use Rattle.frames.proofs.Laws.Samples.{first-named, first-only}
+use Rattle.frames_written.proofs.Laws.Samples.{first-named, first-only}
 use Rattle.writer.proofs.Laws.Write.{bright-refuses, bright-passes, stored-fits, stored-none}
 
 -- ---- Inversions: what is answered comes from the checks, from check 12, or from the rest

@@ -16,11 +16,11 @@ use Rattle.steps.specs.declared.amount.Amount.{Amount}
 use Rattle.steps.specs.declared.amount.Amount.the-variants.{Number, None}
 use Rattle.steps.proofs.Laws.Answer.{Passed, pass}
 use Rattle.steps.proofs.Laws.Amount.{amount-is, amount-passes}
-use Rattle.frames.specs.Samples.{firstBright}
-use Rattle.frames.specs.Frame.{frameOf, worstOf, fileOf}
+use Rattle.frames_written.specs.Samples.{firstBright}
+use Rattle.frames_written.specs.Frame.{frameOf, worstOf, fileOf}
 use Rattle.writer.specs.Write.{sizeChecks, frameChecks, brightChecked, stored, lengthOf, length4Of, worstAnswer, writeOf, write4Of}
 use Rattle.writer.specs.Inner.{failing}
-use Rattle.frames.proofs.Laws.Frame.{area-fits, count-of-fits}
+use Rattle.frames_written.proofs.Laws.Frame.{area-fits, count-of-fits}
 
 -- ---- The first check that fails, by its number
 

@@ -1,0 +1,76 @@
+-- `flat_read::read_flat` meets its contract. The invariant: the definition gives from here what it gives from the start.
+use borrow.Author.Needs.{needs}
+use mathlib.Core.Path.{_≡_}
+use Prim.Native.Nat.{_+_, _*_, _-_, _≤_}
+use lib.ListN.{length}
+use Rattle.steps.proofs.Laws.Loop.{Runs}
+use Rattle.flat_read.specs.Flat.{flat, crateFlat, flatTurn, flatOut, flatOf}
+use Rattle.flat_read.proofs.Laws.Flat.{flat-starts, flat-done, flat-ends, flat-short, flat-again}
+use Rattle.flat_read.proofs.read_flat.Statement.{statement}
+use Rattle.flat_read.proofs.read_flat.Tie as tie
+
+abbrev Inv-loop : tie.InvT-loop
+Inv-loop src at store₀ start wanted p₀ place₀ left₀ shift₀ store p place left shift =
+    (place + 4 * left ≤ length store) × (length store ≡ length store₀) × Runs (flatTurn crateFlat src start) flatOut (length src - p) (flat p place left shift store) (flatOf crateFlat src at store₀ start wanted)
+
+abbrev μ-loop : tie.MeasureT-loop
+μ-loop src at store₀ start wanted p₀ place₀ left₀ shift₀ store p place left shift = length src - p
+
+loop-holds : tie.Need-loop-holds Inv-loop μ-loop
+loop-holds c = (search needs, search needs, search flat-starts)
+
+same-length : tie.Need-same-length Inv-loop μ-loop
+same-length c = search needs
+
+returns : tie.Need-returns Inv-loop μ-loop
+returns c = search flat-ends
+
+less-requires : tie.Need-less-requires Inv-loop μ-loop
+less-requires c κs = search needs
+
+put-bytes-requires : tie.Need-put-bytes-requires Inv-loop μ-loop
+put-bytes-requires c κs = search needs
+
+same-length-2 : tie.Need-same-length-2 Inv-loop μ-loop
+same-length-2 c = search needs
+
+returns-2 : tie.Need-returns-2 Inv-loop μ-loop
+returns-2 c = search flat-short
+
+read-pixel-requires : tie.Need-read-pixel-requires Inv-loop μ-loop
+read-pixel-requires c κs = search needs
+
+add-p : tie.Need-add-p Inv-loop μ-loop
+add-p c = search needs
+
+loop-less : tie.Need-loop-less Inv-loop μ-loop
+loop-less c = search needs
+
+loop-again : tie.Need-loop-again Inv-loop μ-loop
+loop-again c = (search needs, search needs, search flat-again)
+
+same-length-3 : tie.Need-same-length-3 Inv-loop μ-loop
+same-length-3 c = search needs
+
+returns-3 : tie.Need-returns-3 Inv-loop μ-loop
+returns-3 c = search flat-done
+
+pub read-flat-spec : {M : Type 1} → statement M
+read-flat-spec =
+    tie.close
+    (tie.spec
+    Inv-loop
+    μ-loop
+    loop-holds
+    same-length
+    returns
+    less-requires
+    put-bytes-requires
+    same-length-2
+    returns-2
+    read-pixel-requires
+    add-p
+    loop-less
+    loop-again
+    same-length-3
+    returns-3)

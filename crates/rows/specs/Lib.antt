@@ -1,4 +1,0 @@
--- "Rows read" of document 01: one row of the input into the row store, that row in the middle of bytes, and the cut that is not refused.
-pub mod Row
-pub mod Middle
-pub mod Cut
