@@ -4,8 +4,8 @@ use crate::names::Name;
 use crate::print;
 use crate::reads;
 use crate::writes;
-use text::text;
-use text::text::Pair;
+use line_fields::text;
+use line_fields::text::Pair;
 ghost use Prim.Native.Nat.{_≤_};
 
 // Puts the answer to a line.

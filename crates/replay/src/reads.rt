@@ -1,11 +1,11 @@
 // The answers of the reader.
 use crate::print;
-use text::lent;
-use text::text;
-use text::text::Pair;
 use header::Head;
 use header::HeadAnswer;
 use hex::Number;
+use line_fields::lent;
+use line_fields::text;
+use line_fields::text::Pair;
 use reader::ReadAnswer;
 ghost use Prim.Native.Nat.{_≤_};
 

@@ -1,9 +1,9 @@
 // The answers of the writer.
 use crate::print;
-use text::lent;
-use text::text;
-use text::text::Step;
 use hex::Number;
+use line_fields::lent;
+use line_fields::text;
+use line_fields::text::Step;
 use steps::amount::Amount;
 use writer::WriteAnswer;
 ghost use Prim.Native.Nat.{_≤_};

@@ -2,8 +2,8 @@
 use Prim.Native.Nat.{ℕ, _≤_}
 use mathlib.Core.Path.{_≡_}
 use native.Mathlib.Omega.{arith}
-use Rattle.text.specs.declared.text.Step.{Step}
-use Rattle.text.specs.declared.text.Step.the-variants.{Found, Nothing}
+use Rattle.line_fields.specs.declared.text.Step.{Step}
+use Rattle.line_fields.specs.declared.text.Step.the-variants.{Found, Nothing}
 use Rattle.replay.specs.Inner.{Within}
 
 pub room-fits : (most : ℕ) (s : Step) (n next : ℕ) → Within most s → s ≡ Found n next → n ≤ most

@@ -1,6 +1,6 @@
 -- `replay::lines::answer_held` is safe and ends.
 use borrow.Author.Needs.{needs}
-use Rattle.text.proofs.Laws.Filled.{front}
+use Rattle.line_fields.proofs.Laws.Filled.{front}
 use Rattle.replay.proofs.lines.answer_held.Statement.{statement}
 use Rattle.replay.proofs.lines.answer_held.Tie as tie
 

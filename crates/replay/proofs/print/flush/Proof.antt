@@ -1,6 +1,6 @@
 -- `replay::print::flush` is safe and ends.
 use borrow.Author.Needs.{needs}
-use Rattle.text.proofs.Laws.Filled.{front}
+use Rattle.line_fields.proofs.Laws.Filled.{front}
 use Rattle.replay.proofs.print.flush.Statement.{statement}
 use Rattle.replay.proofs.print.flush.Tie as tie
 

@@ -1,6 +1,6 @@
 -- `replay::reads::head` is safe and ends: the bytes that were read fit.
 use borrow.Author.Needs.{needs}
-use Rattle.text.proofs.Laws.Filled.{front}
+use Rattle.line_fields.proofs.Laws.Filled.{front}
 use Rattle.hex.proofs.Laws.Hex.{bytes-fit}
 use Rattle.replay.proofs.reads.head.Statement.{statement}
 use Rattle.replay.proofs.reads.head.Tie as tie

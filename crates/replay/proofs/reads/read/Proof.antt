@@ -1,6 +1,6 @@
 -- `replay::reads::read` is safe and ends: the bytes that were read fit, and so do both buffers.
 use borrow.Author.Needs.{needs}
-use Rattle.text.proofs.Laws.Filled.{front}
+use Rattle.line_fields.proofs.Laws.Filled.{front}
 use Rattle.hex.proofs.Laws.Hex.{bytes-fit}
 use Rattle.replay.proofs.reads.read.Statement.{statement}
 use Rattle.replay.proofs.reads.read.Tie as tie

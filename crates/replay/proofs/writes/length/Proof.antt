@@ -1,6 +1,6 @@
 -- `replay::writes::length` is safe and ends: the samples that were read fit.
 use borrow.Author.Needs.{needs}
-use Rattle.text.proofs.Laws.Filled.{front}
+use Rattle.line_fields.proofs.Laws.Filled.{front}
 use Rattle.hex.proofs.Laws.Hex.{samples-fit}
 use Rattle.replay.proofs.writes.length.Statement.{statement}
 use Rattle.replay.proofs.writes.length.Tie as tie

@@ -1,6 +1,6 @@
 -- `replay::writes::write4` is safe and ends: the bytes that were read fit, and so does the output.
 use borrow.Author.Needs.{needs}
-use Rattle.text.proofs.Laws.Filled.{front}
+use Rattle.line_fields.proofs.Laws.Filled.{front}
 use Rattle.hex.proofs.Laws.Hex.{bytes-fit}
 use Rattle.replay.proofs.Laws.Room.{room-fits}
 use Rattle.replay.proofs.writes.write4.Statement.{statement}

@@ -1,6 +1,6 @@
 -- `sky::file::head_in` meets its contract: what the part says lies in the part.
 use borrow.Author.Needs.{needs}
-use Rattle.text.proofs.Laws.Filled.{front}
+use Rattle.line_fields.proofs.Laws.Filled.{front}
 use Rattle.sky.proofs.Laws.Room.{head-part}
 use Rattle.sky.proofs.file.head_in.Statement.{statement}
 use Rattle.sky.proofs.file.head_in.Tie as tie

@@ -1,6 +1,6 @@
 -- `sky::file::row_in` meets its contract: what the part says lies in the part.
 use borrow.Author.Needs.{needs}
-use Rattle.text.proofs.Laws.Filled.{front}
+use Rattle.line_fields.proofs.Laws.Filled.{front}
 use Rattle.sky.proofs.Laws.Room.{row-part}
 use Rattle.sky.proofs.file.row_in.Statement.{statement}
 use Rattle.sky.proofs.file.row_in.Tie as tie

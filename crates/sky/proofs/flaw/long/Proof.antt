@@ -1,6 +1,6 @@
 -- `sky::flaw::long` is safe.
 use borrow.Author.Needs.{needs}
-use Rattle.text.proofs.Laws.Filled.{front}
+use Rattle.line_fields.proofs.Laws.Filled.{front}
 use Rattle.sky.proofs.flaw.long.Statement.{statement}
 use Rattle.sky.proofs.flaw.long.Tie as tie
 

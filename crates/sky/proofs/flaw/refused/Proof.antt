@@ -1,6 +1,6 @@
 -- `sky::flaw::refused` is safe.
 use borrow.Author.Needs.{needs}
-use Rattle.text.proofs.Laws.Filled.{front}
+use Rattle.line_fields.proofs.Laws.Filled.{front}
 use Rattle.sky.proofs.flaw.refused.Statement.{statement}
 use Rattle.sky.proofs.flaw.refused.Tie as tie
 

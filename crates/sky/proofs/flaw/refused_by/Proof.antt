@@ -1,6 +1,6 @@
 -- `sky::flaw::refused_by` is safe.
 use borrow.Author.Needs.{needs}
-use Rattle.text.proofs.Laws.Filled.{front}
+use Rattle.line_fields.proofs.Laws.Filled.{front}
 use Rattle.sky.proofs.flaw.refused_by.Statement.{statement}
 use Rattle.sky.proofs.flaw.refused_by.Tie as tie
 

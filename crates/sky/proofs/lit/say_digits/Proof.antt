@@ -1,6 +1,6 @@
 -- `sky::lit::say_digits` is safe.
 use borrow.Author.Needs.{needs}
-use Rattle.text.proofs.Laws.Filled.{front}
+use Rattle.line_fields.proofs.Laws.Filled.{front}
 use Rattle.sky.proofs.lit.say_digits.Statement.{statement}
 use Rattle.sky.proofs.lit.say_digits.Tie as tie
 

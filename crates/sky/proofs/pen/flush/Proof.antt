@@ -1,6 +1,6 @@
 -- `sky::pen::flush` is safe: what it writes lies in the room.
 use borrow.Author.Needs.{needs}
-use Rattle.text.proofs.Laws.Filled.{front}
+use Rattle.line_fields.proofs.Laws.Filled.{front}
 use Rattle.sky.proofs.pen.flush.Statement.{statement}
 use Rattle.sky.proofs.pen.flush.Tie as tie
 

@@ -1,6 +1,6 @@
 -- `sky::say::front` is safe.
 use borrow.Author.Needs.{needs}
-use Rattle.text.proofs.Laws.Filled.{front}
+use Rattle.line_fields.proofs.Laws.Filled.{front}
 use Rattle.sky.proofs.say.front.Statement.{statement}
 use Rattle.sky.proofs.say.front.Tie as tie
 

@@ -1,13 +1,13 @@
--- `text::lent::fill_bytes` meets its contract. The invariant: each place passed holds its own number mod 251.
+-- `line_fields::lent::fill_bytes` meets its contract. The invariant: each place passed holds its own number mod 251.
 use borrow.Author.Needs.{needs}
 use Prim.Native.Nat.{ℕ, _%_, _-_, _≤_, _<_}
 use mathlib.Core.Path.{_≡_, refl}
 use native.Mathlib.Omega.{arith}
 use borrow.Author.Count.{below-none}
 use lib.ListN.{length, length-set, getD}
-use Rattle.text.proofs.Laws.Filled.{filled-more}
-use Rattle.text.proofs.lent.fill_bytes.Statement.{statement}
-use Rattle.text.proofs.lent.fill_bytes.Tie as tie
+use Rattle.line_fields.proofs.Laws.Filled.{filled-more}
+use Rattle.line_fields.proofs.lent.fill_bytes.Statement.{statement}
+use Rattle.line_fields.proofs.lent.fill_bytes.Tie as tie
 
 abbrev Inv-loop : tie.InvT-loop
 Inv-loop bytes₀ i₀ bytes i = (i ≤ length bytes) × (length bytes ≡ length bytes₀) × ((k : ℕ) → k < i → getD bytes k 0 ≡ k % 251)

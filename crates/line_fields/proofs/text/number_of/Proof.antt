@@ -1,8 +1,8 @@
--- `text::text::number_of` meets its contract: each `return` is a case of it.
+-- `line_fields::text::number_of` meets its contract: each `return` is a case of it.
 use borrow.Author.Needs.{needs}
-use Rattle.text.proofs.Laws.Fields.{number-empty, number-digit, number-zero, number-plain}
-use Rattle.text.proofs.text.number_of.Statement.{statement}
-use Rattle.text.proofs.text.number_of.Tie as tie
+use Rattle.line_fields.proofs.Laws.Fields.{number-empty, number-digit, number-zero, number-plain}
+use Rattle.line_fields.proofs.text.number_of.Statement.{statement}
+use Rattle.line_fields.proofs.text.number_of.Tie as tie
 
 returns : tie.Need-returns
 returns c = search number-empty

@@ -1,8 +1,8 @@
--- `text::text::pair_at` meets its contract.
+-- `line_fields::text::pair_at` meets its contract.
 use borrow.Author.Needs.{needs}
-use Rattle.text.proofs.Laws.Fields.{pair-none, pair-one, pair-both}
-use Rattle.text.proofs.text.pair_at.Statement.{statement}
-use Rattle.text.proofs.text.pair_at.Tie as tie
+use Rattle.line_fields.proofs.Laws.Fields.{pair-none, pair-one, pair-both}
+use Rattle.line_fields.proofs.text.pair_at.Statement.{statement}
+use Rattle.line_fields.proofs.text.pair_at.Tie as tie
 
 number-at-requires : tie.Need-number-at-requires
 number-at-requires c κs = search needs

@@ -4,7 +4,7 @@ use words::sizes::Size;
 ghost use mathlib.Core.Path.{_≡_};
 ghost use Prim.Native.Nat.{_≤_};
 ghost use lib.ListN.{length};
-ghost use Rattle.text.specs.Fields.{fieldEnd, numberOf, numberAt, pairAt};
+ghost use Rattle.line_fields.specs.Fields.{fieldEnd, numberOf, numberAt, pairAt};
 
 // The number that a field is, written with no leading zero.
 fn number_of(field: &[u8]) -> Size

@@ -8,10 +8,10 @@ use Rattle.steps.specs.Loop.{pick}
 use Rattle.words.specs.Sizes.{numberFrom}
 use Rattle.words.specs.declared.sizes.Size.{Size}
 use Rattle.words.specs.declared.sizes.Size.the-variants.{Number, NoNumber}
-use Rattle.text.specs.declared.text.Step.{Step}
-use Rattle.text.specs.declared.text.Step.the-variants.{Found, Nothing}
-use Rattle.text.specs.declared.text.Pair.{Pair}
-use Rattle.text.specs.declared.text.Pair.the-variants.{Both, Fewer}
+use Rattle.line_fields.specs.declared.text.Step.{Step}
+use Rattle.line_fields.specs.declared.text.Step.the-variants.{Found, Nothing}
+use Rattle.line_fields.specs.declared.text.Pair.{Pair}
+use Rattle.line_fields.specs.declared.text.Pair.the-variants.{Both, Fewer}
 
 -- the bytes up to the first space, or to the end
 unfoldable pub field : List ℕ → List ℕ

@@ -1,4 +1,4 @@
--- `text::lent::fill_samples` meets its contract. The invariant: each place passed holds its own number mod 251.
+-- `line_fields::lent::fill_samples` meets its contract. The invariant: each place passed holds its own number mod 251.
 use borrow.Author.Needs.{needs}
 use Prim.Native.Nat.{ℕ, _%_, _-_, _≤_, _<_}
 use mathlib.Core.Path.{_≡_, refl}
@@ -7,9 +7,9 @@ use borrow.Author.Count.{below-none}
 use lib.Ieee.{Float, binary32, nan, ofInt}
 use lib.IntN.{pos}
 use lib.ListN.{length, length-set, getD}
-use Rattle.text.proofs.Laws.Filled.{filled-more}
-use Rattle.text.proofs.lent.fill_samples.Statement.{statement}
-use Rattle.text.proofs.lent.fill_samples.Tie as tie
+use Rattle.line_fields.proofs.Laws.Filled.{filled-more}
+use Rattle.line_fields.proofs.lent.fill_samples.Statement.{statement}
+use Rattle.line_fields.proofs.lent.fill_samples.Tie as tie
 
 abbrev Inv-loop : tie.InvT-loop
 Inv-loop samples₀ i₀ samples i =

@@ -1,12 +1,12 @@
--- `text::text::field_end` meets its contract. The invariant: from here the field has the same end.
+-- `line_fields::text::field_end` meets its contract. The invariant: from here the field has the same end.
 use borrow.Author.Needs.{needs}
 use mathlib.Core.Path.{_≡_, refl}
 use Prim.Native.Nat.{_-_, _≤_}
 use lib.ListN.{length}
-use Rattle.text.specs.Fields.{fieldEnd}
-use Rattle.text.proofs.Laws.Fields.{end-past, end-found, end-on}
-use Rattle.text.proofs.text.field_end.Statement.{statement}
-use Rattle.text.proofs.text.field_end.Tie as tie
+use Rattle.line_fields.specs.Fields.{fieldEnd}
+use Rattle.line_fields.proofs.Laws.Fields.{end-past, end-found, end-on}
+use Rattle.line_fields.proofs.text.field_end.Statement.{statement}
+use Rattle.line_fields.proofs.text.field_end.Tie as tie
 
 abbrev Inv-loop : tie.InvT-loop
 Inv-loop line at p₀ p = (at ≤ p) × (p ≤ length line) × (fieldEnd line p ≡ fieldEnd line at)

@@ -11,12 +11,12 @@ use lib.Seq.{drop-cons}
 use lib.Dec.{eqb}
 use Rattle.steps.specs.Loop.{pick}
 use Rattle.words.specs.Sizes.{numberFrom}
-use Rattle.text.specs.Fields.{field, fieldEnd, numberOf, stepOf, numberAt, secondOf, firstOf, pairAt}
+use Rattle.line_fields.specs.Fields.{field, fieldEnd, numberOf, stepOf, numberAt, secondOf, firstOf, pairAt}
 use Rattle.words.specs.declared.sizes.Size.{Size}
 use Rattle.words.specs.declared.sizes.Size.the-variants.{Number, NoNumber}
-use Rattle.text.specs.declared.text.Step.{Step}
-use Rattle.text.specs.declared.text.Step.the-variants.{Found, Nothing}
-use Rattle.text.specs.declared.text.Pair.the-variants.{Both, Fewer}
+use Rattle.line_fields.specs.declared.text.Step.{Step}
+use Rattle.line_fields.specs.declared.text.Step.the-variants.{Found, Nothing}
+use Rattle.line_fields.specs.declared.text.Pair.the-variants.{Both, Fewer}
 
 -- ---- A field's end
 

@@ -1,8 +1,8 @@
--- `text::text::number_at` meets its contract.
+-- `line_fields::text::number_at` meets its contract.
 use borrow.Author.Needs.{needs}
-use Rattle.text.proofs.Laws.Fields.{at-past, at-number, at-none}
-use Rattle.text.proofs.text.number_at.Statement.{statement}
-use Rattle.text.proofs.text.number_at.Tie as tie
+use Rattle.line_fields.proofs.Laws.Fields.{at-past, at-number, at-none}
+use Rattle.line_fields.proofs.text.number_at.Statement.{statement}
+use Rattle.line_fields.proofs.text.number_at.Tie as tie
 
 returns : tie.Need-returns
 returns c = search at-past
