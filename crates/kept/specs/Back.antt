@@ -2,16 +2,13 @@
 use Prim.Native.Nat.{ℕ, _-_, _*_, _^_, _<_, _≤_}
 use mathlib.Core.Bool.{false}
 use mathlib.Core.List.{List, [], _∷_, _++_}
-use mathlib.Core.Logic.{_⊎_}
 use mathlib.Core.Path.{_≡_}
-use lib.Dec.{T}
 use lib.IntN.{pos, negsuc}
 use lib.Ieee.{Float, fin}
 use lib.ListN.{length, take, drop}
 use Rattle.steps.specs.Place.{spread}
 use Rattle.steps.specs.Answer.{Answer, done}
 use Rattle.pixel.specs.declared.Pixel.{Pixel}
-use Rattle.pixel.specs.Units.{plain}
 use Rattle.pixel.specs.Rgbe.{peak, rgbeAt}
 use Rattle.loss.specs.Kept.{Numbers, Between, InRange, Lies, step, KeptAll, zeros}
 use Rattle.header.specs.declared.Head.{Head}

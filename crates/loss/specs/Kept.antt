@@ -3,7 +3,7 @@ use mathlib.Core.Path.{_≡_}
 use mathlib.Core.Logic.{_⊎_}
 use Prim.Native.Nat.{ℕ, _+_, _-_, _^_, _≤_, _<_}
 use lib.Dec.{T}
-use lib.Ieee.{Float, size}
+use lib.Ieee.{Float}
 use Rattle.pixel.specs.declared.Pixel.{Pixel}
 use Rattle.pixel.specs.Units.{mag, plain, ofUnits}
 use Rattle.pixel.specs.Rgbe.{peak}

@@ -4,6 +4,7 @@ pub mod Place
 pub mod Turns
 pub mod Machines
 pub mod Width
+pub mod Order
 pub mod Answer
 pub mod Numbered
 pub mod Amount

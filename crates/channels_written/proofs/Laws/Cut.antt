@@ -1,23 +1,14 @@
 -- Where two neighbours differ, the cut of the whole is the cut of what stands before and the cut of what stands after.
 use mathlib.Core.Path.{_≡_, refl, sym, ap, _∙_}
-use mathlib.Core.Logic.{_⊎_, inl, inr, ⊎-elim}
-use mathlib.Core.Bool.{Bool, true, false}
+use mathlib.Core.Logic.{_⊎_, ⊎-elim}
 use mathlib.Core.List.{List, [], _∷_, _++_, append-nil}
 use Prim.Native.Nat.{ℕ, zero, suc, _-_, _≤_, _<_}
 use native.Mathlib.Omega.{arith}
 use lib.ListN.{length, getD, take, drop, drop-of-length-le}
-use lib.Dec.{ltb}
 use lib.Seq.{take-suc, drop-cons, split-at, take-all}
-use borrow.Author.Tests.{ltb-true, ltb-false}
+use Rattle.steps.proofs.Laws.Order.{lt-or-ge}
 use Rattle.channels_written.specs.Channel.{Run, run, grow, cut}
 use Rattle.channels_written.proofs.Laws.Channel.{grow-other, grow-step}
-
-pub lt-or-ge : (a b : ℕ) → (a < b) ⊎ (b ≤ a)
-lt-or-ge a b = go (ltb a b) refl
-  where
-    go : (t : Bool) → ltb a b ≡ t → (a < b) ⊎ (b ≤ a)
-    go true e = inl (ltb-true a b e)
-    go false e = inr (ltb-false a b e)
 
 -- the run in hand ends before y at the latest
 grow-split : (v n : ℕ) (p : List ℕ) (x y : ℕ) (q : List ℕ) → (x ≡ y → ⊥) → grow v n (p ++ x ∷ y ∷ q) ≡ grow v n (p ++ x ∷ []) ++ grow y 1 q

@@ -8,10 +8,10 @@ use native.Mathlib.Numerals.{add-one}
 use borrow.Author.Count.{below-more}
 use lib.ListN.{length, getD, drop, drop-of-length-le}
 use lib.Seq.{drop-cons}
+use Rattle.steps.proofs.Laws.Order.{lt-or-ge}
 use Rattle.channels_written.specs.Channel.{run, grow, cut, channel}
 use Rattle.channels_written.specs.Inner.{Four, FourEqual, Equal}
 use Rattle.channels_written.proofs.Laws.Channel.{grow-same, grow-other, grow-full}
-use Rattle.channels_written.proofs.Laws.Cut.{lt-or-ge}
 use Rattle.channels_written.proofs.Laws.Places.{length-channel, getD-channel}
 
 module _ (xs : List ℕ) (v n : ℕ) (e : cut xs ≡ grow v n (drop n xs)) where

@@ -9,12 +9,12 @@ use native.Mathlib.Numerals.{add-one}
 use native.Mathlib.Omega.{arith}
 use lib.ListN.{length, set}
 use lib.Ieee.{Float}
+use Rattle.steps.proofs.Laws.Order.{lt-or-ge}
 use Rattle.steps.specs.Loop.{pick}
 use Rattle.steps.specs.Place.{spread}
 use Rattle.pixel.specs.declared.Pixel.{Pixel}
 use Rattle.pixel.specs.declared.Rgbe.{Rgbe}
 use Rattle.pixel.specs.Rgbe.{bytesOf, tooBright}
-use Rattle.pixel.proofs.Laws.Numbers.{either}
 use Rattle.frames_written.specs.Samples.{pixelAt, four, packed, firstBright, FirstBright}
 
 -- ---- The bytes of pixels
@@ -173,11 +173,11 @@ module _ (samples : List Float) where
       let first : ℕ = firstBright samples 0 n in
       ⊎-elim
       (λ l. absurd (differ (rw (here first) at (named 0 n (omega (arith, f .within)))) (f .first first l)))
-      (λ l. ⊎-elim (λ g. absurd (differ (f .bright) (rw (here k) at (before 0 n k g)))) (λ g. omega arith) (either k first))
-      (either first k)
+      (λ l. ⊎-elim (λ g. absurd (differ (f .bright) (rw (here k) at (before 0 n k g)))) (λ g. omega arith) (lt-or-ge k first))
+      (lt-or-ge first k)
 
   -- where some pixel is too bright, there is a first
   pub first-exists : (n j : ℕ) → j < n → tooBright (pixelAt samples (3 * j)) ≡ true → FirstBright samples n (firstBright samples 0 n)
   first-exists n j h e =
       first-named n (firstBright samples 0 n) refl
-      (⊎-elim (λ l. l) (λ g. absurd (differ e (rw (here j) at (before 0 n j (omega arith))))) (either (firstBright samples 0 n) n))
+      (⊎-elim (λ l. l) (λ g. absurd (differ e (rw (here j) at (before 0 n j (omega arith))))) (lt-or-ge (firstBright samples 0 n) n))

@@ -1,13 +1,12 @@
 -- Bytes behind those taken change nothing, by any rule for rows of which that holds at one row; by the crate reading.
 use Prim.Native.Nat.{ℕ, _+_, _<_, _≤_}
-use mathlib.Core.Bool.{Bool, true, false}
 use mathlib.Core.List.{List, [], _++_, append-nil}
 use mathlib.Core.Path.{_≡_, refl, sym, ap, subst, _∙_}
 use native.Mathlib.Omega.{arith}
-use borrow.Author.Tests.{le-ltb, ltb-true, ltb-false}
-use lib.Dec.{ltb}
+use borrow.Author.Tests.{le-ltb}
 use lib.Ieee.{Float}
 use lib.ListN.{length, length-append}
+use Rattle.steps.proofs.Laws.Order.{by-order}
 use Rattle.steps.specs.Loop.{Turn, more, halt, run}
 use Rattle.steps.specs.Answer.{Answer, done, refused, refuse}
 use Rattle.steps.proofs.Laws.Answer.{differ, passed-by}
@@ -36,14 +35,6 @@ abbrev Firm : ℕ → Answer ℕ → Type 0
 Firm n (done p) = p < n
 Firm n (refused number row) = number ≡ 9 → ⊥
 
--- a place that is before the end, or is not
-inside : {X : Type 0} (p n : ℕ) → (p < n → X) → (n ≤ p → X) → X
-inside {X} p n f g = go (ltb p n) refl
-  where
-    go : (t : Bool) → ltb p n ≡ t → X
-    go true e = f (ltb-true p n e)
-    go false e = g (ltb-false p n e)
-
 -- ---- The rows
 
 -- from the end of the bytes on no answer is settled
@@ -63,7 +54,7 @@ rows-past rowRule rule past bytes stored k x h = run-keeps (rowTurn rowRule rule
     step : (y : Rows) → P y → Leads P Q (rowTurn rowRule rule bytes stored y)
     step y p =
         rows-cases rowRule rule bytes stored y (Leads P Q)
-        (λ next o s h e. inside next (length bytes) (λ l. absurd (row y (Done next) s p (went-on rowRule rule (stored .long) (stored .place (y .row)) bytes (y .at) (y .out) o (y .store) s next e .0) l)) (λ l. l))
+        (λ next o s h e. by-order next (length bytes) (λ l. absurd (row y (Done next) s p (went-on rowRule rule (stored .long) (stored .place (y .row)) bytes (y .at) (y .out) o (y .store) s next e .0) l)) (λ l. l))
         (λ number o s h e. row y (Fault number) s p (faulted rowRule rule (stored .long) (stored .place (y .row)) bytes (y .at) (y .out) o (y .store) s number e .0))
         (λ h f. omega arith)
 
@@ -112,7 +103,7 @@ module _ (rowRule : RowRule) (rule : SampleRule) (behind : Behind rowRule) (past
       let a = rowsOf rowRule rule bytes stored at out store in
       same-run (rowTurn rowRule rule bytes stored) (rowTurn rowRule rule (bytes ++ rest) stored) noRows noRows a (λ (x : Rows). x .at < length bytes)
       (λ x k. subst (λ (z : Left). Firm (length bytes) (z .0)) (sym k) firm refl)
-      (λ k x r. inside (x .at) (length bytes) (λ l. l) (λ l. absurd (rows-past rowRule rule past bytes stored k x l (subst (λ (z : Left). Firm (length bytes) (z .0)) (sym r) firm))))
+      (λ k x r. by-order (x .at) (length bytes) (λ l. l) (λ l. absurd (rows-past rowRule rule past bytes stored k x l (subst (λ (z : Left). Firm (length bytes) (z .0)) (sym r) firm))))
       rows-on
       (λ x. rows-end x a firm)
       _ _ _ (omega arith) refl
@@ -147,7 +138,7 @@ module _ (rowRule : RowRule) (rule : SampleRule) (behind : Behind rowRule) (past
       (rw (rows-alone rowRule rule behind past bytes rest (storedOf h) (h .taken) out (cleared (storedOf h .long) store) firm) e, starts h firm)
     where
       starts : (h : Head) → Firm (length bytes) (rowsOf rowRule rule bytes (storedOf h) (h .taken) out (cleared (storedOf h .long) store) .0) → h .taken < length bytes
-      starts h firm = inside (h .taken) (length bytes) (λ l. l) (λ l. absurd (rows-of-past rowRule rule past bytes (storedOf h) (h .taken) out (cleared (storedOf h .long) store) l firm))
+      starts h firm = by-order (h .taken) (length bytes) (λ l. l) (λ l. absurd (rows-of-past rowRule rule past bytes (storedOf h) (h .taken) out (cleared (storedOf h .long) store) l firm))
 
   by-header : (a : Answer Head) → headerOf bytes widest highest ≡ a → readBy rowRule rule bytes widest highest out store ≡ (done head, out′, store′)
       → readBy rowRule rule (bytes ++ rest) widest highest out store ≡ (done head, out′, store′)

@@ -9,7 +9,6 @@ use native.Mathlib.Omega.{arith}
 use borrow.Author.Tests.{ne-eqb}
 use lib.Dec.{eqb}
 use lib.Ieee.{Float, size}
-use lib.Ieee.Digits.{size-le, size-lt, size-reaches}
 use lib.ListN.{length, drop}
 use lib.Seq.{drop-at}
 use Rattle.steps.specs.Place.{spread}
@@ -19,7 +18,6 @@ use Rattle.pixel.specs.declared.Rgbe.{Rgbe}
 use Rattle.pixel.specs.Rgbe.{crateUnits, pixelOf, peak, dark, bytesOf, rgbeAt}
 use Rattle.loss.specs.Written.{Written}
 use Rattle.loss.specs.Kept.{InRange, Lies, step, KeptAll, zeros}
-use Rattle.pixel.proofs.Laws.Digits.{size-gt}
 use Rattle.loss.proofs.Laws.Kept.{kept-at-a-pixel, black-back}
 use Rattle.loss.proofs.Laws.Written.{written-bytes}
 use Rattle.flat_read.specs.Flat.{isRepeat}

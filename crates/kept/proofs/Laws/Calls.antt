@@ -11,12 +11,12 @@ use lib.Dec.{ltb, lit<, lit≤}
 use lib.Ieee.{Float}
 use lib.ListN.{length, take, drop}
 use lib.Seq.{take-at}
+use Rattle.steps.proofs.Laws.Order.{lt-or-ge}
 use Rattle.steps.specs.Answer.{Answer}
 use Rattle.steps.proofs.Laws.Answer.{Passed}
 use Rattle.pixel.specs.Rgbe.{peak, tooBright}
 use Rattle.loss.specs.Kept.{Between}
 use Rattle.header.specs.declared.Head.{Head}
-use Rattle.channels_written.proofs.Laws.Cut.{lt-or-ge}
 use Rattle.rows_read.specs.Row.{RowRule, crateRow}
 use Rattle.back.proofs.Laws.Row.{RowsBack, crate-row-back}
 use Rattle.reader.specs.Samples.{SampleRule}

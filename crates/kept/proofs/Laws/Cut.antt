@@ -2,17 +2,16 @@
 use Prim.{Unit}
 use Prim.Native.Nat.{ℕ, zero, suc, _+_, _-_, _*_, _<_, _≤_}
 use mathlib.Core.List.{List, []}
-use mathlib.Core.Logic.{⊎-elim}
 use mathlib.Core.Path.{_≡_, refl, sym, ap, _∙_, subst}
 use native.Mathlib.Nat.{mul-zero}
 use native.Mathlib.Omega.{arith}
 use lib.Ieee.{Float, nan}
 use lib.ListN.{length, getD, set, length-set}
 use lib.Seq.{getD-set-same, getD-set-other}
+use Rattle.steps.proofs.Laws.Order.{by-order}
 use Rattle.steps.specs.Place.{spread}
 use Rattle.steps.proofs.Laws.Place.{length-spread}
-use Rattle.steps.specs.Answer.{Answer, done}
-use Rattle.steps.specs.declared.Taken.{Taken}
+use Rattle.steps.specs.Answer.{done}
 use Rattle.steps.specs.declared.Taken.the-variants.{Done}
 use Rattle.steps.proofs.Laws.Loop.{Runs, runs-more}
 use Rattle.steps.proofs.Laws.Turns.{Leads, Falls}
@@ -22,19 +21,18 @@ use Rattle.pixel.specs.Units.{ofUnits}
 use Rattle.pixel.specs.Rgbe.{crateScale, crateUnits, rgbeAt}
 use Rattle.pixel.proofs.Laws.Scales.{crate-none}
 use Rattle.loss.specs.Kept.{zeros}
-use Rattle.header.specs.declared.Head.{Head}
 use Rattle.header.specs.declared.HeadAnswer.the-variants.{Read}
 use Rattle.header.specs.Head.{taking}
 use Rattle.rows_read.specs.Row.{crateRow}
-use Rattle.rows_read.specs.Cut.{behind, CutRow}
+use Rattle.rows_read.specs.Cut.{behind}
 use Rattle.rows_read.proofs.Laws.Cut.{cutStore, cut-row, cut-exponents}
-use Rattle.channels_written.proofs.Laws.Cut.{lt-or-ge}
 use Rattle.reader.specs.Samples.{SampleRule, three, placed}
-use Rattle.reader.specs.Frame.{Stored, along, storedOf, cleared, stepOf, Rows, rows, Left, rowTurn, noRows, rowsOf}
+use Rattle.reader.specs.Frame.{Stored, along, storedOf, cleared, stepOf, Rows, Left, rowTurn, noRows, rowsOf}
 use Rattle.reader.specs.Read.{cratePixel, framed, readBy}
 use Rattle.reader.proofs.Laws.Frame.{row-room, went-on, rows-start, rows-cases, rows-again, rows-done}
 use Rattle.reader.proofs.Laws.Read.{frame-rows, read-frame}
 use Rattle.frames_written.specs.Samples.{pixelAt}
+use Rattle.kept.proofs.Laws.Lent.{length-placed}
 use Rattle.kept.specs.Back.{pixel}
 use Rattle.kept.specs.Cut.{AfterRows, CutFile}
 
@@ -89,15 +87,7 @@ no-exponent q e =
 
 -- ---- The pixels of the last row in the output
 
-either : (a b : ℕ) {A : Type 0} → (a < b → A) → (b ≤ a → A) → A
-either a b f g = ⊎-elim f g (lt-or-ge a b)
-
 module _ (rule : SampleRule) (first : ℕ) (store : List ℕ) where
-  length-placed : (place : ℕ → ℕ) (i n : ℕ) (out : List Float) → length (placed rule place store i n out) ≡ length out
-  unfolding placed
-  length-placed place i zero out = refl
-  length-placed place i (suc n) out = length-placed place (i + 1) n _ ∙ length-spread 1 out (3 * place i) (three (rule (rgbeAt store (4 * i))) [])
-
   -- three samples stand where they were put, and those before them as they were
   put-before : (out : List Float) (p j : ℕ) (q : Pixel) → j < p → getD (spread 1 out p (three q [])) j nan ≡ getD out j nan
   unfolding spread
@@ -133,7 +123,7 @@ module _ (rule : SampleRule) (first : ℕ) (store : List ℕ) where
       let q : Pixel = rule (rgbeAt store (4 * i)) in
       let out′ : List Float = spread 1 out (3 * (first + i)) (three q []) in
       let long = length-spread 1 out (3 * (first + i)) (three q []) in
-      either i k
+      by-order i k
       (λ m. placed-pixel (i + 1) n k out′ (omega arith) (omega arith) (omega arith))
       (λ m. let here : k ≡ i = omega arith in
       let same : (j : ℕ) → j < 3 * (first + (i + 1)) → getD (placed rule (along first) store (i + 1) n out′) j nan ≡ getD out′ j nan = λ j g. placed-before (i + 1) n out′ j g in
@@ -150,7 +140,7 @@ module _ (bytes : List ℕ) (stored : Stored) where
   turn-long x =
       rows-cases crateRow cratePixel bytes stored x (Leads (SameLong x) (λ (z : Left). Unit {0}))
       (λ at o s h e. ap length (went-on crateRow cratePixel (stored .long) (stored .place (x .row)) bytes (x .at) (x .out) o (x .store) s at e .1)
-      ∙ length-placed cratePixel 0 s (stored .place (x .row)) 0 (stored .long) (x .out))
+      ∙ length-placed cratePixel (stored .place (x .row)) s 0 (stored .long) (x .out))
       (λ number o s h e. tt) (λ h. tt)
 
   rows-long : (n : ℕ) (x y : Rows) → AfterRows bytes stored n x y → SameLong x y

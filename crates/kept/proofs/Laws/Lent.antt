@@ -11,6 +11,7 @@ use borrow.Author.Tests.{ltb-false}
 use lib.Ieee.{Float, nan}
 use lib.ListN.{length, getD, drop, set, replicate, length-set, length-drop, length-replicate}
 use lib.Seq.{getD-set-same, getD-set-other, getD-drop, ext-getD}
+use Rattle.steps.proofs.Laws.Order.{lt-or-ge}
 use Rattle.steps.specs.Place.{spread}
 use Rattle.steps.specs.Answer.{Answer, done, refused, refuse, Check, check, checked}
 use Rattle.steps.specs.Numbered.{FirstFails}
@@ -22,7 +23,6 @@ use Rattle.steps.proofs.Laws.Place.{length-spread}
 use Rattle.pixel.specs.declared.Pixel.{Pixel}
 use Rattle.header.specs.declared.Head.{Head}
 use Rattle.header.specs.Head.{headChecks, fieldsOf, headOf, taking}
-use Rattle.channels_written.proofs.Laws.Cut.{lt-or-ge}
 use Rattle.rows_read.specs.Row.{RowRule, crateRow}
 use Rattle.rows_read.proofs.Laws.Kept.{Kept, kept-same, kept-then, kept-spread}
 use Rattle.rows_read.proofs.Laws.Bounds.{SoundRow, crate-sound}
@@ -73,7 +73,7 @@ module _ (out : List Float) (p : ℕ) (q : Pixel) where
 -- ---- One row
 
 module _ (rule : SampleRule) (place : ℕ → ℕ) (store : List ℕ) where
-  length-placed : (i n : ℕ) (out : List Float) → length (placed rule place store i n out) ≡ length out
+  pub length-placed : (i n : ℕ) (out : List Float) → length (placed rule place store i n out) ≡ length out
   unfolding placed
   length-placed i zero out = refl
   length-placed i (suc n) out = length-placed (i + 1) n _ ∙ length-spread 1 out (3 * place i) (three (rule (rgbeAt store (4 * i))) [])

@@ -6,7 +6,7 @@ use mathlib.Core.Option.{Option, some}
 use mathlib.Core.Path.{_≡_, refl, sym, ap, _∙_}
 use Prim.Native.Nat.{ℕ, zero, suc, _+_, _-_, _*_, _≤_, _<_}
 use native.Mathlib.Omega.{arith}
-use borrow.Author.Tests.{lt-ltb, le-ltb, le-leb}
+use borrow.Author.Tests.{le-ltb, le-leb}
 use lib.Dec.{eqb}
 use lib.ListN.{length, getD, drop, set}
 use Rattle.steps.specs.Place.{bytesFrom, spread}

@@ -1,5 +1,5 @@
 -- By the crate reading the range of demand 3 is the widest: just below it and at its upper end a frame is written that does not come back within a step.
-use Prim.Native.Nat.{ℕ, _-_, _^_, _<_, _≤_}
+use Prim.Native.Nat.{ℕ, _-_, _<_, _≤_}
 use mathlib.Core.List.{List, [], _∷_}
 use mathlib.Core.Logic.{_⊎_, inl, inr, ⊎-elim}
 use mathlib.Core.Path.{_≡_, subst, _∙_}

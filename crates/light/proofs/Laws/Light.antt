@@ -8,16 +8,17 @@ use native.Mathlib.Omega.{arith}
 use borrow.Author.Tests.{ne-eqb, lt-ltb, le-ltb}
 use lib.Dec.{ltb, eqb}
 use lib.Pow.{pow-pos, pow-mono, shl-exact}
+use Rattle.steps.proofs.Laws.Order.{lt-or-ge}
 use Rattle.pixel.specs.declared.Rgbe.{Rgbe}
 use Rattle.pixel.specs.Rgbe.{crateShift, crateUnits}
-use Rattle.pixel.proofs.Laws.Numbers.{either, same-test, mul-pow-pow}
+use Rattle.pixel.proofs.Laws.Numbers.{same-test, mul-pow-pow}
 use Rattle.pixel.proofs.Laws.Scales.{crate-at, crate-none}
 use Rattle.light.specs.Light.{lightOf, isBlack, isMasked, darker, brighter}
 
 -- ---- The largest sample is that of the largest mantissa
 
 max-scale : (a b c : ℕ) → max a b * c ≡ max (a * c) (b * c)
-max-scale a b c = ⊎-elim less not-less (either a b)
+max-scale a b c = ⊎-elim less not-less (lt-or-ge a b)
   where
     less : a < b → max a b * c ≡ max (a * c) (b * c)
     less h =
@@ -54,13 +55,13 @@ cap-right m n d h = same-test m (n * 2 ^ min d 8) m (n * 2 ^ d) forth back
         omega (arith, mul-le-mul-left n (pow-mono {i = min d 8} {j = d} k))
 
     some : m < n * 2 ^ d → 1 ≤ n
-    some l = ⊎-elim (λ (k : 0 < n). k) (λ k. let z : n ≡ 0 = omega arith in absurd (none (rw z at l))) (either 0 n)
+    some l = ⊎-elim (λ (k : 0 < n). k) (λ k. let z : n ≡ 0 = omega arith in absurd (none (rw z at l))) (lt-or-ge 0 n)
       where
         none : m < 0 * 2 ^ d → ⊥
         none k = omega arith
 
     back : m < n * 2 ^ d → m < n * 2 ^ min d 8
-    back l = ⊎-elim over within (either 8 d)
+    back l = ⊎-elim over within (lt-or-ge 8 d)
       where
         over : 8 < d → m < n * 2 ^ min d 8
         over k =
@@ -80,7 +81,7 @@ cap-left m n d h = same-test (m * 2 ^ min d 8) n (m * 2 ^ d) n forth back
         omega (arith, mul-le-mul-left m (pow-mono {i = min d 8} {j = d} k))
 
     forth : m * 2 ^ min d 8 < n → m * 2 ^ d < n
-    forth l = ⊎-elim over within (either 8 d)
+    forth l = ⊎-elim over within (lt-or-ge 8 d)
       where
         nothing : m * 2 ^ 8 < n → m * 2 ^ d < n
         nothing k =
@@ -98,7 +99,7 @@ scaled-test : (a b s : ℕ) → ltb a b ≡ ltb (a * 2 ^ s) (b * 2 ^ s)
 scaled-test a b s = same-test a b (a * 2 ^ s) (b * 2 ^ s) (λ h. mul-lt-mul-of-pos-right h (pow-pos s)) (λ h. lt-of-mul-lt-mul-right (2 ^ s) h)
 
 pub below-by-shift : (m s n t : ℕ) → m < 256 → n < 256 → ltb (m * 2 ^ min (s - t) 8) (n * 2 ^ min (t - s) 8) ≡ ltb (m * 2 ^ s) (n * 2 ^ t)
-below-by-shift m s n t hm hn = ⊎-elim high low (either t s)
+below-by-shift m s n t hm hn = ⊎-elim high low (lt-or-ge t s)
   where
     high : t < s → ltb (m * 2 ^ min (s - t) 8) (n * 2 ^ min (t - s) 8) ≡ ltb (m * 2 ^ s) (n * 2 ^ t)
     high h =
@@ -130,7 +131,7 @@ darker-test p q m s n t b em en es et eb = rw (← em, ← en, ← es, ← et) e
 
 pub black-test : (q : Rgbe) (m : ℕ) → m * 2 ^ crateShift (q .e) ≡ lightOf q → eqb m 0 ≡ isBlack q
 unfolding isBlack
-black-test q m e = ⊎-elim some none (either 0 m)
+black-test q m e = ⊎-elim some none (lt-or-ge 0 m)
   where
     none : m ≤ 0 → eqb m 0 ≡ eqb (lightOf q) 0
     none h =

@@ -9,12 +9,13 @@ use native.Mathlib.Omega.{arith}
 use lib.Dec.{T, lit≤}
 use lib.Pow.{pow-mono, shl-lt}
 use lib.Ieee.{Float, nan, inf, fin, binary32, round, ofBits, fits, size}
+use Rattle.steps.proofs.Laws.Order.{lt-or-ge}
 use Rattle.pixel.specs.declared.Pixel.{Pixel}
 use Rattle.pixel.specs.declared.Rgbe.{Rgbe}
 use Rattle.pixel.specs.Units.{mag}
 use Rattle.pixel.specs.Rgbe.{peak, dark, black, tooBright, bytesOf}
 use Rattle.loss.specs.Dark.{lastBlack, firstLight, grey}
-use Rattle.pixel.proofs.Laws.Numbers.{either, mul-pow-pow}
+use Rattle.pixel.proofs.Laws.Numbers.{mul-pow-pow}
 use Rattle.pixel.proofs.Laws.Samples.{shape, own-mag}
 use Rattle.pixel.proofs.Laws.Digits.{size-low}
 use Rattle.pixel.proofs.Laws.Bytes.{peak-is, coded-bytes, black-bytes}
@@ -49,7 +50,7 @@ beyond m i h l =
     ⊎-elim
     (λ s. absurd (lt-irrefl dark (lt-trans l (lt-of-lt-of-le (shl-lt 24 i h) (le-trans (pow-mono {i = 24 + i} {j = 42} (omega arith)) (lit≤ {m = 2 ^ 42} {n = dark} tt))))))
     (λ s. let is = mul-pow-pow m (i - 19) 19 i (omega arith) in subst (λ (z : ℕ). 0xcfb120 * 524288 ≤ z) is (next (m * 2 ^ (i - 19)) (subst (λ (z : ℕ). dark < z) (sym is) l)))
-    (either i 19)
+    (lt-or-ge i 19)
   where
     next : (z : ℕ) → 0xcfb11f * 524288 < z * 524288 → 0xcfb120 * 524288 ≤ z * 524288
     next z k = omega arith
@@ -92,7 +93,7 @@ light-above p l h e =
 -- so no pixel of f32s that is not black is darker than the other
 pub darkest-light : (p : Pixel) → T (fits binary32 (p .r)) → T (fits binary32 (p .g)) → T (fits binary32 (p .b)) → (bytesOf p ≡ black → ⊥) → mag firstLight ≤ peak p
 darkest-light p r g b light =
-    let above : mag lastBlack < peak p = ⊎-elim (λ l. l) (λ l. absurd (light (black-up-to p l))) (either (mag lastBlack) (peak p)) in
+    let above : mag lastBlack < peak p = ⊎-elim (λ l. l) (λ l. absurd (light (black-up-to p l))) (lt-or-ge (mag lastBlack) (peak p)) in
     ⊎-elim (λ e. by (p .r) r e above) (λ o. ⊎-elim (λ e. by (p .g) g e above) (λ e. by (p .b) b e above) o) (peak-is p)
   where
     by : (x : Float) → T (fits binary32 x) → peak p ≡ mag x → mag lastBlack < peak p → mag firstLight ≤ peak p

@@ -2,7 +2,7 @@
 use mathlib.Core.Path.{_≡_, refl, sym, ap, _∙_, subst}
 use mathlib.Core.Bool.{true, false}
 use mathlib.Core.Logic.{⊎-elim}
-use Prim.Native.Nat.{ℕ, _+_, _-_, _*_, _/_, _^_, _≤_, _<_, zero-le}
+use Prim.Native.Nat.{ℕ, _+_, _-_, _*_, _/_, _^_, _≤_, _<_}
 use native.Mathlib.Nat.{mod-lt, zero-mul, not-suc-le-zero, lt-of-le-of-lt, lt-of-lt-of-le}
 use native.Mathlib.Omega.{arith}
 use lib.Dec.{T, eqb→eq, lit<, lit≤}
@@ -14,7 +14,7 @@ use Rattle.pixel.specs.declared.Rgbe.{Rgbe}
 use Rattle.pixel.specs.Units.{ofUnits, mag, plain}
 use Rattle.pixel.specs.Rgbe.{crateScale, crateUnits, pixelOf, peak, dark, byteOf, bytesOf}
 use Rattle.loss.specs.Kept.{InRange, Lies, step, Kept, KeptAll, zeros}
-use Rattle.pixel.proofs.Laws.Units.{zero-exact, exact-plain, mag-is}
+use Rattle.pixel.proofs.Laws.Units.{exact-plain, mag-is}
 use Rattle.pixel.proofs.Laws.Samples.{shape, own-mag}
 use Rattle.loss.proofs.Laws.Scales.{doc-at, scales-meet}
 use Rattle.loss.proofs.Laws.Values.{crate-exact}

@@ -4,8 +4,8 @@ use mathlib.Core.Logic.{⊎-elim}
 use Prim.Native.Nat.{ℕ, _+_, _^_, _≤_, _<_}
 use native.Mathlib.Omega.{arith}
 use borrow.Author.Tests.{eq-eqb, ne-eqb}
+use Rattle.steps.proofs.Laws.Order.{lt-or-ge}
 use Rattle.pixel.specs.Rgbe.{crateShift, crateScale}
-use Rattle.pixel.proofs.Laws.Numbers.{either}
 use Rattle.pixel.proofs.Laws.Scales.{crate-high, crate-low, crate-at}
 use Rattle.loss.specs.Document.{docScale}
 
@@ -19,7 +19,7 @@ doc-none e h = simp (eq-eqb e 0 (omega arith))
 
 -- ---- one scale from 97 to 159
 shifts-meet : (e : ℕ) → 97 ≤ e → e ≤ 159 → crateShift e ≡ e + 13
-shifts-meet e h k = ⊎-elim (λ l. omega (arith, crate-high e l)) (λ l. omega (arith, crate-low e l)) (either 128 e)
+shifts-meet e h k = ⊎-elim (λ l. omega (arith, crate-high e l)) (λ l. omega (arith, crate-low e l)) (lt-or-ge 128 e)
 
 pub scales-meet : (e : ℕ) → 97 ≤ e → e ≤ 159 → crateScale e ≡ docScale e
 scales-meet e h k = crate-at e (omega arith) ∙ ap (λ (j : ℕ). 2 ^ j) (shifts-meet e h k) ∙ sym (doc-at e (omega arith))

@@ -6,10 +6,10 @@ use native.Mathlib.Nat.{lt-irrefl, lt-of-lt-of-le, mul-lt-mul-of-pos-left, mul-z
 use native.Mathlib.Omega.{arith}
 use lib.Dec.{lit≤}
 use lib.Pow.{pow-lt, pow-mono, shl-lt}
+use Rattle.steps.proofs.Laws.Order.{lt-or-ge}
 use Rattle.pixel.specs.Units.{ofUnits, Exactly, mag}
 use Rattle.pixel.specs.Rgbe.{crateShift, crateScale, crateUnits}
 use Rattle.loss.specs.Document.{docScale, docUnits, Alike}
-use Rattle.pixel.proofs.Laws.Numbers.{either}
 use Rattle.pixel.proofs.Laws.Units.{units-exact, zero-exact, mag-is}
 use Rattle.pixel.proofs.Laws.Scales.{crate-at, crate-bounds, crate-none}
 use Rattle.loss.proofs.Laws.Scales.{doc-at, doc-none, scales-meet}
@@ -25,11 +25,11 @@ exact-none m scale is = subst (λ (n : ℕ). Exactly (ofUnits n) n) (sym (ap (λ
 
 pub crate-exact : (m e : ℕ) → m < 256 → Exactly (ofUnits (crateUnits m e)) (crateUnits m e)
 unfolding crateUnits
-crate-exact m e M = ⊎-elim (λ h. exact-at m (crateScale e) (crateShift e) M (omega (arith, crate-bounds e)) (crate-at e h)) (λ h. exact-none m (crateScale e) (crate-none e h)) (either 0 e)
+crate-exact m e M = ⊎-elim (λ h. exact-at m (crateScale e) (crateShift e) M (omega (arith, crate-bounds e)) (crate-at e h)) (λ h. exact-none m (crateScale e) (crate-none e h)) (lt-or-ge 0 e)
 
 pub doc-exact : (m e : ℕ) → m < 256 → e < 256 → Exactly (ofUnits (docUnits m e)) (docUnits m e)
 unfolding docUnits
-doc-exact m e M E = ⊎-elim (λ h. exact-at m (docScale e) (e + 13) M (omega arith) (doc-at e h)) (λ h. exact-none m (docScale e) (doc-none e h)) (either 0 e)
+doc-exact m e M E = ⊎-elim (λ h. exact-at m (docScale e) (e + 13) M (omega arith) (doc-at e h)) (λ h. exact-none m (docScale e) (doc-none e h)) (lt-or-ge 0 e)
 
 -- ---- crate value and document value agree at 0 and from 97 to 159
 pub values-agree : (m e : ℕ) → Alike e → crateUnits m e ≡ docUnits m e
@@ -49,8 +49,8 @@ less m a b i j M x y h same =
 
 outside : (e : ℕ) → (Alike e → ⊥) → (0 < e) × ((e < 97) ⊎ (159 < e))
 outside e apart = (
-  ⊎-elim (λ h. h) (λ h. absurd (apart (inl (omega arith)))) (either 0 e),
-  ⊎-elim (λ h. inl h) (λ h. ⊎-elim (λ k. inr k) (λ k. absurd (apart (inr (h, k)))) (either 159 e)) (either e 97),
+  ⊎-elim (λ h. h) (λ h. absurd (apart (inl (omega arith)))) (lt-or-ge 0 e),
+  ⊎-elim (λ h. inl h) (λ h. ⊎-elim (λ k. inr k) (λ k. absurd (apart (inr (h, k)))) (lt-or-ge 159 e)) (lt-or-ge e 97),
 )
 
 pub values-differ : (m e : ℕ) → 0 < m → (Alike e → ⊥) → crateUnits m e ≡ docUnits m e → ⊥

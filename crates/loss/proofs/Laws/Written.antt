@@ -8,10 +8,10 @@ use lib.Dec.{lit≤}
 use lib.Pow.{pow-pos, pow-add}
 use lib.Ieee.{size}
 use lib.Ieee.Digits.{size-le, size-reaches}
+use Rattle.steps.proofs.Laws.Order.{lt-or-ge}
 use Rattle.pixel.specs.declared.Pixel.{Pixel}
 use Rattle.pixel.specs.Rgbe.{peak, dark, byteOf, coded, bytesOf}
 use Rattle.loss.specs.Written.{Written}
-use Rattle.pixel.proofs.Laws.Numbers.{either}
 use Rattle.pixel.proofs.Laws.Digits.{size-low}
 use Rattle.pixel.proofs.Laws.Bytes.{peak-is, coded-bytes, black-bytes, bright-bytes, by-step}
 
@@ -29,9 +29,9 @@ coded-written p N l h top =
 pub written-bytes : (p : Pixel) → Written (bytesOf p)
 written-bytes p =
     ⊎-elim
-    (λ l. ⊎-elim (λ h. subst Written (sym (coded-bytes p l h)) (light l h)) (λ h. inl (bright-bytes p l h)) (either (peak p) (2 ^ 276)))
+    (λ l. ⊎-elim (λ h. subst Written (sym (coded-bytes p l h)) (light l h)) (λ h. inl (bright-bytes p l h)) (lt-or-ge (peak p) (2 ^ 276)))
     (λ l. inl (black-bytes p l))
-    (either dark (peak p))
+    (lt-or-ge dark (peak p))
   where
     light : dark < peak p → peak p < 2 ^ 276 → Written (coded (size (peak p)) p)
     light l h =

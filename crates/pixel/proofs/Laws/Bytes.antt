@@ -10,12 +10,13 @@ use lib.Pow.{pow-pos}
 use lib.Ieee.{Float, size}
 use lib.Ieee.Nearest.{div-same}
 use borrow.Author.Tests.{le-leb, lt-leb, lt-ltb, le-ltb, ltb-true, ltb-false}
+use Rattle.steps.proofs.Laws.Order.{lt-or-ge}
 use Rattle.steps.specs.Loop.{pick}
 use Rattle.pixel.specs.declared.Pixel.{Pixel}
 use Rattle.pixel.specs.Units.{mag}
 use Rattle.pixel.specs.Rgbe.{peak, dark, byteOf, coded, black, tooBright, bytesOf}
 use Rattle.pixel.specs.Inner.{near}
-use Rattle.pixel.proofs.Laws.Numbers.{either, pow-pow}
+use Rattle.pixel.proofs.Laws.Numbers.{pow-pow}
 
 -- ---- no sample is above the largest, and the largest is one of the three
 pub r-peak : (p : Pixel) → mag (p .r) ≤ peak p
@@ -31,7 +32,7 @@ unfolding peak
 b-peak p = le-max-right (max (mag (p .r)) (mag (p .g))) (mag (p .b))
 
 max-is : (a b : ℕ) → (max a b ≡ a) ⊎ (max a b ≡ b)
-max-is a b = ⊎-elim (λ h. inr (max-eq-right (le-of-lt h))) (λ h. inl (max-eq-left h)) (either a b)
+max-is a b = ⊎-elim (λ h. inr (max-eq-right (le-of-lt h))) (λ h. inl (max-eq-left h)) (lt-or-ge a b)
 
 pub peak-is : (p : Pixel) → (peak p ≡ mag (p .r)) ⊎ ((peak p ≡ mag (p .g)) ⊎ (peak p ≡ mag (p .b)))
 unfolding peak
@@ -44,7 +45,7 @@ peak-is p =
 
 -- ---- the cases
 leb-ltb : (a b : ℕ) → leb a b ≡ not (ltb b a)
-leb-ltb a b = ⊎-elim (λ h. lt-leb a b h ∙ ap not (sym (lt-ltb b a h))) (λ h. le-leb a b h ∙ ap not (sym (le-ltb b a h))) (either b a)
+leb-ltb a b = ⊎-elim (λ h. lt-leb a b h ∙ ap not (sym (lt-ltb b a h))) (λ h. le-leb a b h ∙ ap not (sym (le-ltb b a h))) (lt-or-ge b a)
 
 pub coded-bytes : (p : Pixel) → dark < peak p → peak p < 2 ^ 276 → bytesOf p ≡ coded (size (peak p)) p
 unfolding bytesOf tooBright

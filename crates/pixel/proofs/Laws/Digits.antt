@@ -9,16 +9,16 @@ use lib.Pow.{pow-pos, pow-add, pow-mono}
 use lib.Ieee.{Float, binary32, fits, toBits, size}
 use lib.Ieee.Digits.{size-lt, size-reaches, size-le}
 use lib.Ieee.Fits.{kept-lt}
+use Rattle.steps.proofs.Laws.Order.{lt-or-ge}
 use Rattle.pixel.specs.Units.{mag}
 use Rattle.pixel.specs.Inner.{bright}
 use Rattle.pixel.specs.Rgbe.{dark}
-use Rattle.pixel.proofs.Laws.Numbers.{either}
 use Rattle.pixel.proofs.Laws.Samples.{bright-exact}
 use Rattle.pixel.proofs.Laws.Patterns.{bitsOf, bits-are}
 
 -- more than j binary digits
 pub size-gt : (n j : ℕ) → 2 ^ j ≤ n → j < size n
-size-gt n j h = ⊎-elim (λ l. l) (λ l. absurd (lt-irrefl n (lt-of-lt-of-le (size-lt n) (le-trans (pow-mono l) h)))) (either j (size n))
+size-gt n j h = ⊎-elim (λ l. l) (λ l. absurd (lt-irrefl n (lt-of-lt-of-le (size-lt n) (le-trans (pow-mono l) h)))) (lt-or-ge j (size n))
 
 -- the count of binary digits is the one N with 2^(N-1) <= v < 2^N
 pub size-is : (v N : ℕ) → 2 ^ (N - 1) ≤ v → v < 2 ^ N → size v ≡ N

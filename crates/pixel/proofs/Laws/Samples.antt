@@ -10,9 +10,9 @@ use lib.Dec.{T, ltb, leb, eqb, lit<, leb→le, ltb→lt}
 use lib.Pow.{pow-pos, pow-add, pow-mono, pow-lt, shl-lt}
 use lib.Ieee.{Float, nan, inf, fin, binary32, up, down, fits, isNan}
 use lib.Ieee.Fits.{down-pos, and-l, and-r}
+use Rattle.steps.proofs.Laws.Order.{lt-or-ge}
 use Rattle.pixel.specs.Units.{Exactly, mag}
 use Rattle.pixel.specs.Inner.{bright}
-use Rattle.pixel.proofs.Laws.Numbers.{either}
 
 -- ---- what `fits` says of a value that is not zero
 parts : (s : Bool) (m : ℕ) (e : ℤ) → T (fits binary32 (fin s (suc m) e)) → (suc m < 2 ^ 24) × (down e ≤ 2 ^ 149) × (suc m * up e < 2 ^ 128 * down e)
@@ -30,7 +30,7 @@ abbrev pub Shape : ℕ → ℤ → Type 0
 Shape m e = (i : ℕ) × (m < 2 ^ 24) × (m * up e * 2 ^ 149 ≡ m * 2 ^ i * down e) × (m * 2 ^ i < 2 ^ 277)
 
 small-exponent : (k : ℕ) → 2 ^ suc k ≤ 2 ^ 149 → suc k ≤ 149
-small-exponent k h = ⊎-elim (λ l. absurd (lt-irrefl (2 ^ 149) (lt-of-lt-of-le (pow-lt l) h))) (λ l. l) (either 149 (suc k))
+small-exponent k h = ⊎-elim (λ l. absurd (lt-irrefl (2 ^ 149) (lt-of-lt-of-le (pow-lt l) h))) (λ l. l) (lt-or-ge 149 (suc k))
 
 split : (k : ℕ) → suc k ≤ 149 → 149 ≡ 149 - suc k + suc k
 split k h = omega arith

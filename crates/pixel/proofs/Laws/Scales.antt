@@ -4,9 +4,9 @@ use mathlib.Core.Logic.{⊎-elim}
 use Prim.Native.Nat.{ℕ, _+_, _-_, _%_, _^_, _≤_, _<_}
 use native.Mathlib.Omega.{arith}
 use borrow.Author.Tests.{eq-eqb, ne-eqb, lt-ltb, le-ltb}
+use Rattle.steps.proofs.Laws.Order.{lt-or-ge}
 use Rattle.pixel.specs.Units.{ofUnits, Exactly}
 use Rattle.pixel.specs.Rgbe.{crateShift, crateScale}
-use Rattle.pixel.proofs.Laws.Numbers.{either}
 use Rattle.pixel.proofs.Laws.Units.{power-exact, zero-exact}
 
 -- ---- the crate's power by cases
@@ -19,7 +19,7 @@ unfolding crateShift
 crate-low e h = simp (le-ltb 128 e h)
 
 pub crate-bounds : (e : ℕ) → (110 ≤ crateShift e) × (crateShift e ≤ 172)
-crate-bounds e = ⊎-elim (λ h. omega (arith, crate-high e h)) (λ h. omega (arith, crate-low e h)) (either 128 e)
+crate-bounds e = ⊎-elim (λ h. omega (arith, crate-high e h)) (λ h. omega (arith, crate-low e h)) (lt-or-ge 128 e)
 
 -- ---- a scale is a power of two, and 0 at the exponent byte 0
 pub crate-at : (e : ℕ) → 0 < e → crateScale e ≡ 2 ^ crateShift e
@@ -36,4 +36,4 @@ scale-exact e =
     ⊎-elim
     (λ h. subst (λ (n : ℕ). Exactly (ofUnits n) n) (sym (crate-at e h)) (power-exact (crateShift e) (omega (arith, crate-bounds e))))
     (λ h. subst (λ (n : ℕ). Exactly (ofUnits n) n) (sym (crate-none e h)) zero-exact)
-    (either 0 e)
+    (lt-or-ge 0 e)

@@ -13,10 +13,11 @@ use lib.Ieee.Digits.{size-le}
 use lib.Ieee.Fits.{nearest-le}
 use lib.Ieee.Nearest.{div-same, closest}
 use lib.Ieee.Scale.{round-same, round-val, grid}
+use Rattle.steps.proofs.Laws.Order.{lt-or-ge}
 use Rattle.pixel.specs.Units.{ofUnits, Exactly, mag}
 use Rattle.pixel.specs.Inner.{bright}
 use Rattle.pixel.specs.Rgbe.{byteOf}
-use Rattle.pixel.proofs.Laws.Numbers.{either, mul-pow-pow}
+use Rattle.pixel.proofs.Laws.Numbers.{mul-pow-pow}
 use Rattle.pixel.proofs.Laws.Units.{units-exact, exact-bright, mag-is, mul-values}
 use Rattle.pixel.proofs.Laws.Samples.{shape, own-value, own-mag}
 
@@ -99,4 +100,4 @@ scaled-whole (fin false m e) s N p b h u v =
     let under : m * 2 ^ i < 2 ^ N = subst (λ (z : ℕ). z < 2 ^ N) is u in
     subst (λ (z : ℕ). Whole (mul binary32 (fin false m e) s) (byteOf N z)) (sym is)
     (subst (λ (z : Float). Whole z (byteOf N (m * 2 ^ i))) (sym (mul-values (fin false m e) s (m * 2 ^ i) (2 ^ 149) (2 ^ (306 - N)) (2 ^ 149) (pow-pos 149) (pow-pos 149) (own-value m e k) v))
-    (⊎-elim (λ l. small m i N (k .1) h l) (λ l. large m i N (k .1) h l under) (either (i + 157) N)))
+    (⊎-elim (λ l. small m i N (k .1) h l) (λ l. large m i N (k .1) h l under) (lt-or-ge (i + 157) N)))

@@ -1,20 +1,20 @@
 -- Bytes before a row change nothing but places. First of any rule that promises it of its parts, then of the crate reading; and both sides together.
-use Prim.Native.Nat.{ℕ, zero, suc, _+_, _-_, min, _<_, _≤_}
+use Prim.Native.Nat.{ℕ, zero, suc, _+_, _-_, min}
 use mathlib.Core.Bool.{Bool, true, false}
-use mathlib.Core.List.{List, [], _∷_, _++_, append-assoc}
+use mathlib.Core.List.{List, [], _∷_, _++_}
 use mathlib.Core.Path.{_≡_, refl, sym, ap, _∙_}
 use native.Mathlib.Nat.{add-assoc, suc-add}
 use native.Mathlib.Omega.{arith}
 use borrow.Author.Tests.{lt-ltb, le-ltb, ltb-true, ltb-false, lt-leb, le-leb, leb-true, leb-false}
 use lib.ListN.{length, getD, length-append}
 use lib.Dec.{ltb, leb, eqb}
-use Rattle.steps.specs.Loop.{pick, Turn, more, halt, run}
-use Rattle.steps.specs.Place.{bytesFrom, spread}
+use Rattle.steps.specs.Loop.{pick, Turn, more, halt}
+use Rattle.steps.specs.Place.{bytesFrom}
 use Rattle.steps.proofs.Laws.Turns.{enough-turns}
 use Rattle.steps.proofs.Laws.Machines.{told, told-pick, told-run}
 use Rattle.steps.specs.declared.Taken.{Taken}
 use Rattle.steps.specs.declared.Taken.the-variants.{Done, Fault}
-use Rattle.channels_read.specs.Channel.{Chan, chan, CountRule, crateCount, channelTurn, channelOut, channelOf, isRun, spanBytes, spanOf}
+use Rattle.channels_read.specs.Channel.{Chan, chan, CountRule, crateCount, channelTurn, channelOut, channelOf, spanBytes, spanOf}
 use Rattle.channels_read.specs.Channels.{Chans, chans, afterChannel, chansTurn, chansOut, channelsOf}
 use Rattle.channels_read.proofs.Laws.Channel.{channel-cases, channel-falls, turn-done, turn-short, turn-fault, turn-span}
 use Rattle.flat_read.specs.Flat.{Flat, FlatRule, flat, crateFlat, fourTo, goesOn, isRepeat, flatTurn, flatOut, flatOf, ordinary, repeated, stored}

@@ -5,11 +5,11 @@ use mathlib.Core.Bool.{Bool, true, false}
 use mathlib.Core.List.{List, _++_}
 use mathlib.Core.Path.{_≡_, refl, sym, ap, subst, _∙_}
 use native.Mathlib.Omega.{arith}
-use borrow.Author.Tests.{lt-ltb, le-ltb, ltb-true, ltb-false}
+use borrow.Author.Tests.{lt-ltb, le-ltb}
 use lib.ListN.{length, getD, length-append, List·getD-append}
-use lib.Dec.{ltb}
+use Rattle.steps.proofs.Laws.Order.{by-order}
 use Rattle.steps.specs.Loop.{Turn, more, halt, run}
-use Rattle.steps.specs.Place.{bytesFrom, spread}
+use Rattle.steps.specs.Place.{bytesFrom}
 use Rattle.steps.proofs.Laws.Turns.{by-test, Leads, run-keeps}
 use Rattle.steps.proofs.Laws.Machines.{more-halt, same-run}
 use Rattle.steps.specs.declared.Taken.{Taken}
@@ -18,7 +18,7 @@ use Rattle.channels_read.specs.Channel.{Chan, chan, Count, span, fault, CountRu
 use Rattle.channels_read.specs.Channels.{Chans, chans, afterChannel, chansTurn, chansOut, channelsOf}
 use Rattle.channels_read.proofs.Laws.Channel.{channel-cases, turn-done, turn-fault, turn-span}
 use Rattle.channels_read.proofs.Laws.Channels.{chans-cases}
-use Rattle.flat_read.specs.Flat.{Flat, FlatRule, flat, crateFlat, fourTo, goesOn, isRepeat, flatTurn, flatOut, flatOf, ordinary, repeated, stored}
+use Rattle.flat_read.specs.Flat.{Flat, FlatRule, flat, crateFlat, fourTo, goesOn, isRepeat, flatTurn, flatOut, flatOf, repeated}
 use Rattle.flat_read.proofs.Laws.Flat.{flat-cases}
 use Rattle.rows_read.specs.declared.kind.Kind.{Kind}
 use Rattle.rows_read.specs.declared.kind.Kind.the-variants as kind
@@ -43,14 +43,6 @@ module _ (src rest : List ℕ) where
 
   pub longer : length src ≤ length (src ++ rest)
   longer = omega (arith, length-append src rest)
-
--- a place that is not before the end, or is
-inside : {X : Type 0} (p n : ℕ) → (p < n → X) → (n ≤ p → X) → X
-inside {X} p n f g = go (ltb p n) refl
-  where
-    go : (t : Bool) → ltb p n ≡ t → X
-    go true e = f (ltb-true p n e)
-    go false e = g (ltb-false p n e)
 
 -- ---- A channel, by a rule of which the same holds at a count
 
@@ -138,7 +130,7 @@ module _ (rule : CountRule) (behind : CountBehind rule) (src rest : List ℕ) (c
       let a = channelOf rule src at store channel width in
       same-run (channelTurn rule src channel width) (channelTurn rule (src ++ rest) channel width) channelOut channelOut a (λ (x : Chan). x .at < length src)
       (λ x k. subst (Firm src) (sym k) firm refl)
-      (λ k x r. inside (x .at) (length src) (λ l. l) (λ l. absurd (channel-past rule src channel width k x l (subst (Firm src) (sym r) firm))))
+      (λ k x r. by-order (x .at) (length src) (λ l. l) (λ l. absurd (channel-past rule src channel width k x l (subst (Firm src) (sym r) firm))))
       channel-on
       (λ x. channel-end x a firm)
       _ _ _ (omega (arith, longer src rest)) refl
@@ -165,7 +157,7 @@ module _ (rule : CountRule) (src : List ℕ) (width : ℕ) where
       step : (y : Chans) → P y → Leads P Q (chansTurn rule src width y)
       step y p =
           chans-cases rule src width y (Leads P Q)
-          (λ next s l f. inside next (length src) (λ m. absurd (read y (Done next, s) p f m)) (λ m. m))
+          (λ next s l f. by-order next (length src) (λ m. absurd (read y (Done next, s) p f m)) (λ m. m))
           (λ number s l f. read y (Fault number, s) p f)
           (λ l f. omega arith)
 
@@ -204,7 +196,7 @@ module _ (rule : CountRule) (behind : CountBehind rule) (src rest : List ℕ) (w
       let a = channelsOf rule src at store width in
       same-run (chansTurn rule src width) (chansTurn rule (src ++ rest) width) chansOut chansOut a (λ (x : Chans). x .at < length src)
       (λ x k. subst (Firm src) (sym k) firm refl)
-      (λ k x r. inside (x .at) (length src) (λ l. l) (λ l. absurd (chans-past rule src width k x l (subst (Firm src) (sym r) firm))))
+      (λ k x r. by-order (x .at) (length src) (λ l. l) (λ l. absurd (chans-past rule src width k x l (subst (Firm src) (sym r) firm))))
       chans-on
       (λ x. chans-end x a firm)
       5 5 _ (omega arith) refl
@@ -254,7 +246,7 @@ module _ (rule : FlatRule) (behind : OnesBehind rule) (src rest : List ℕ) (sta
   flat-turn x z e all-there = go (goesOn (x .wanted) (x .shift)) refl
     where
       go : (g : Bool) → goesOn (x .wanted) (x .shift) ≡ g → flatTurn rule (src ++ rest) start x ≡ z
-      go true eg = inside (length src) (x .at + 4) (λ h. absurd (all-there (sym e ∙ flat-missing x eg h))) (λ h. flat-same x h ∙ e)
+      go true eg = by-order (length src) (x .at + 4) (λ h. absurd (all-there (sym e ∙ flat-missing x eg h))) (λ h. flat-same x h ∙ e)
       go false eg = flat-over x eg ∙ e
 
   pub flat-behind : (at : ℕ) (store : List ℕ) (wanted : ℕ) → Firm src (flatOf rule src at store start wanted) → flatOf rule (src ++ rest) at store start wanted ≡ flatOf rule src at store start wanted

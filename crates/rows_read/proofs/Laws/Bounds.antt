@@ -13,12 +13,12 @@ use Rattle.steps.proofs.Laws.Place.{length-bytes}
 use Rattle.steps.proofs.Laws.Turns.{by-test, Leads, run-keeps}
 use Rattle.steps.specs.declared.Taken.{Taken}
 use Rattle.steps.specs.declared.Taken.the-variants.{Done, Fault}
-use Rattle.channels_read.specs.Channel.{Chan, CountRule, span, crateCount, channelOf, channelOut, channelTurn, isRun, spanBytes, spanOf}
+use Rattle.channels_read.specs.Channel.{Chan, CountRule, crateCount, channelOf, channelOut, channelTurn, isRun, spanBytes, spanOf}
 use Rattle.channels_read.specs.Channels.{Chans, channelsOf, chansOut, chansTurn}
 use Rattle.channels_read.proofs.Laws.Channel.{StaysInside, crate-inside, channel-cases, span-onward}
 use Rattle.channels_read.proofs.Laws.Channels.{chans-cases}
 use Rattle.flat_read.specs.Repeat.{Rep, copied, repeatOf, repeatOut, repeatTurn}
-use Rattle.flat_read.specs.Flat.{Flat, FlatRule, crateFlat, flatOf, flatOut, flatTurn, fourTo, ordinary, repeated, stored}
+use Rattle.flat_read.specs.Flat.{Flat, FlatRule, crateFlat, flatOf, flatOut, flatTurn, fourTo, repeated, stored}
 use Rattle.flat_read.proofs.Laws.Repeat.{repeat-cases}
 use Rattle.flat_read.proofs.Laws.Flat.{flat-cases}
 use Rattle.rows_read.specs.declared.kind.Kind.{Kind}

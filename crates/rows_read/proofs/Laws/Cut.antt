@@ -3,14 +3,13 @@ use Prim.Native.Nat.{ℕ, zero, suc, _+_, _-_, _*_, min, _<_, _≤_}
 use native.Mathlib.Nat.{not-suc-le-zero}
 use native.Mathlib.Numerals.{add-one}
 use native.Mathlib.Omega.{arith}
-use mathlib.Core.Bool.{Bool, true, false}
+use mathlib.Core.Bool.{false}
 use mathlib.Core.List.{List, [], _∷_, _++_}
-use mathlib.Core.Logic.{⊎-elim}
 use mathlib.Core.Path.{_≡_, refl, sym, ap, _∙_, subst}
-use borrow.Author.Tests.{ltb-true, ltb-false, lt-ltb, le-ltb}
-use lib.Dec.{ltb}
+use borrow.Author.Tests.{lt-ltb, le-ltb}
 use lib.ListN.{length, getD, set, drop, replicate, length-drop, drop-of-length-le, List·getD-eq-default}
 use lib.Seq.{drop-cons, getD-set-same, getD-set-other, set-out}
+use Rattle.steps.proofs.Laws.Order.{by-order}
 use Rattle.steps.specs.Place.{bytesFrom, spread}
 use Rattle.steps.specs.declared.Taken.{Taken}
 use Rattle.steps.specs.declared.Taken.the-variants.{Done}
@@ -21,16 +20,9 @@ use Rattle.channels_read.specs.Channel.{Chan, chan, crateCount, isRun, spanLeng
 use Rattle.channels_read.specs.Channels.{channelsOf}
 use Rattle.channels_read.proofs.Laws.Channel.{length-run, length-literals, crate-count, taken-run, taken-literals, turn-span, turn-done, span-onward, channel-starts, channel-falls}
 use Rattle.channels_read.proofs.Laws.Channels.{chans-starts, chans-again, chans-done}
-use Rattle.rows_read.specs.Row.{isFlatWidth, crateStart, crateRow}
+use Rattle.rows_read.specs.Row.{crateStart, crateRow}
 use Rattle.rows_read.specs.Cut.{After, CutAt, behind, filled, CutRow}
 use Rattle.rows_read.proofs.Laws.Row.{row-channels}
-
-either : (a b : ℕ) {A : Type 0} → (a < b → A) → (b ≤ a → A) → A
-either a b {A} f g = go (ltb a b) refl
-  where
-    go : (t : Bool) → ltb a b ≡ t → A
-    go true e = f (ltb-true a b e)
-    go false e = g (ltb-false a b e)
 
 -- ---- Bytes of which some are missing
 
@@ -48,7 +40,7 @@ bytes-short : (src : List ℕ) (p n : ℕ) → length src ≤ p + n → bytesFro
 unfolding bytesFrom
 bytes-short src p zero h = past-end src p 0 (0 - (length src - p)) (omega arith) (omega arith)
 bytes-short src p (suc n) h =
-    either p (length src)
+    by-order p (length src)
     (λ l. let left : n - (length src - (p + 1)) ≡ suc n - (length src - p) = omega arith in
     ap (λ (r : List ℕ). getD src p 0 ∷ r) (bytes-short src (p + 1) n (omega arith) ∙ ap (λ (k : ℕ). drop (p + 1) src ++ replicate k 0) left ∙ ap (λ (k : ℕ). drop k src ++ replicate (suc n - (length src - p)) 0) (add-one p))
     ∙ ap (λ (r : List ℕ). r ++ replicate (suc n - (length src - p)) 0) (sym (drop-cons src p 0 l)))
@@ -67,7 +59,7 @@ module _ (src : List ℕ) (width : ℕ) (x : Chan) (cut : CutAt src width x) whe
   cut-bytes : spanBytes src (x .at + 1) count left ≡ filled src width x
   unfolding spanBytes isRun
   cut-bytes =
-      either 128 count
+      by-order 128 count
       (λ l. let none = cut .run l in
       let first : getD src (x .at + 1) 0 ≡ 0 = List·getD-eq-default src 0 (omega arith) in
       simp (lt-ltb 128 count l) (ap (replicate left) first ∙ past-end src (x .at + 1) left (left - behind src x) (omega arith) (omega arith)))
@@ -75,7 +67,7 @@ module _ (src : List ℕ) (width : ℕ) (x : Chan) (cut : CutAt src width x) whe
 
   cut-end : min (x .at + 1 + spanTaken count left) (length src) ≡ length src
   cut-end =
-      either 128 count
+      by-order 128 count
       (λ l. omega (arith, taken-run count left l, cut .run l))
       (λ l. omega (arith, taken-literals count left l, cut .literals l))
 
@@ -135,7 +127,7 @@ module _ (src : List ℕ) (at : ℕ) (store : List ℕ) (width : ℕ) (c : CutRo
 pub cut-most : (src : List ℕ) (width : ℕ) (x : Chan) → CutAt src width x → getD src (x .at) 0 < 256 → width - x .done - behind src x ≤ 128
 cut-most src width x cut byte =
     let c : ℕ = getD src (x .at) 0 in
-    either 128 c
+    by-order 128 c
     (λ l. omega (arith, length-run c l, cut .last))
     (λ l. omega (arith, length-literals c l, cut .last))
 
@@ -147,7 +139,7 @@ spread-before s i k [] h = refl
 spread-before s i k (v ∷ vs) h = spread-before (set s i v) (i + 4) k vs (omega arith) ∙ getD-set-other s i k v 0 (λ e. omega arith)
 
 set-zero : (s : List ℕ) (i : ℕ) → getD (set s i 0) i 0 ≡ 0
-set-zero s i = either i (length s) (λ l. getD-set-same s i 0 0 l) (λ l. ap (λ (r : List ℕ). getD r i 0) (set-out s i 0 l) ∙ List·getD-eq-default s 0 l)
+set-zero s i = by-order i (length s) (λ l. getD-set-same s i 0 0 l) (λ l. ap (λ (r : List ℕ). getD r i 0) (set-out s i 0 l) ∙ List·getD-eq-default s 0 l)
 
 spread-zeros : (s : List ℕ) (i n j : ℕ) → j < n → getD (spread 4 s i (replicate n 0)) (i + 4 * j) 0 ≡ 0
 unfolding spread

@@ -20,7 +20,7 @@ use Rattle.steps.specs.declared.Taken.the-variants.{Fault}
 use Rattle.rows_read.specs.declared.kind.Kind.{Kind}
 use Rattle.rows_read.specs.declared.kind.Kind.the-variants.{Missing, Flat, Pixel, Channels}
 use Rattle.channels_read.specs.Channels.{channelsOf}
-use Rattle.rows_read.specs.Row.{RowParts, isFlatWidth, isMark, kindOf, restBy, rowBy, early, proved, crateStart, crateParts, crateRow}
+use Rattle.rows_read.specs.Row.{RowParts, isFlatWidth, isMark, kindOf, restBy, rowBy, early, crateStart, crateParts, crateRow}
 
 -- ---- The kind of row
 

@@ -2,15 +2,12 @@
 use mathlib.Core.Path.{_≡_, refl, ap, _∙_}
 use mathlib.Core.Bool.{true, false}
 use mathlib.Core.List.{List}
-use Prim.Native.Nat.{ℕ, zero, suc, _+_, _*_, _≤_, _<_}
+use Prim.Native.Nat.{ℕ, zero, suc, _+_, _*_, _<_}
 use native.Mathlib.Omega.{arith}
 use lib.ListN.{length, getD, length-append}
-use lib.Dec.{leb}
-use borrow.Author.Tests.{leb-true}
 use Rattle.steps.specs.Place.{bytesFrom}
 use Rattle.steps.proofs.Laws.Place.{length-bytes}
 use Rattle.channels_written.specs.Channel.{code, channel}
-use Rattle.channels_written.proofs.Laws.Channel.{and-both}
 use Rattle.rows_written.specs.Row.{codedRow, writtenRow}
 use Rattle.steps.specs.Width.{isCoded}
 

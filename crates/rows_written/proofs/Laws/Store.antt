@@ -6,6 +6,7 @@ use Prim.Native.Nat.{ℕ, zero, suc, _+_, _-_, _*_, _/_, _%_, _≤_, _<_, min}
 use native.Mathlib.Omega.{arith}
 use lib.ListN.{length, getD, take, drop, set, length-append, drop-of-length-le}
 use lib.Seq.{take-all}
+use Rattle.steps.proofs.Laws.Order.{lt-or-ge}
 use Rattle.steps.specs.Place.{spread}
 use Rattle.channels_written.specs.Channel.{literals, code, gather, stretch, cut, channel}
 use Rattle.rows_written.specs.Row.{mark, codedRow, worstChannel}
@@ -14,7 +15,6 @@ use Rattle.channels_written.specs.Inner.{runOf, Parted}
 use Rattle.channels_written.proofs.Laws.Channel.{literals-packet, length-literals}
 use Rattle.steps.proofs.Laws.Place.{spread-append}
 use Rattle.channels_written.proofs.Laws.Places.{length-channel, drop-channel, take-channel, getD-channel}
-use Rattle.channels_written.proofs.Laws.Cut.{lt-or-ge}
 use Rattle.channels_written.proofs.Laws.Part.{run-some}
 
 -- once p has been stored, what is left to store

@@ -10,8 +10,9 @@ use borrow.Author.Tests.{lt-ltb, le-ltb, ltb-true, leb-true}
 use lib.Dec.{ltb, leb}
 use lib.ListN.{getD, set}
 use lib.Pow.{pow-pos}
+use Rattle.steps.proofs.Laws.Order.{lt-or-ge}
 use Rattle.steps.proofs.Laws.Turns.{and-left, and-right}
-use Rattle.pixel.proofs.Laws.Numbers.{either, pow-pow}
+use Rattle.pixel.proofs.Laws.Numbers.{pow-pow}
 use Rattle.pixel.specs.declared.Rgbe.{Rgbe}
 use Rattle.pixel.specs.Rgbe.{rgbeAt}
 use Rattle.light.specs.Light.{isBlack}
@@ -66,7 +67,7 @@ all-fit = refl
 fit-of : (n m : ℕ) → all n ≡ true → m < n → fits m ≡ true
 unfolding all
 fit-of zero m e h = absurd (not-suc-le-zero h)
-fit-of (suc n) m e h = ⊎-elim (λ (less : m < n). fit-of n m (and-right (fits n) (all n) e) less) (λ (not-less : n ≤ m). here (omega arith)) (either m n)
+fit-of (suc n) m e h = ⊎-elim (λ (less : m < n). fit-of n m (and-right (fits n) (all n) e) less) (λ (not-less : n ≤ m). here (omega arith)) (lt-or-ge m n)
   where
     here : m ≡ n → fits m ≡ true
     here z = rw z (and-left (fits n) (all n) e)

@@ -9,10 +9,10 @@ use mathlib.Core.Logic.{⊎-elim}
 use borrow.Author.Tests.{eqb-true}
 use lib.Dec.{ltb, eqb}
 use lib.ListN.{getD}
+use Rattle.steps.proofs.Laws.Order.{lt-or-ge}
 use Rattle.steps.specs.Loop.{pick}
 use Rattle.steps.proofs.Laws.Turns.{by-test}
 use Rattle.pixel.specs.declared.Rgbe.{Rgbe}
-use Rattle.pixel.proofs.Laws.Numbers.{either}
 use Rattle.pixel.specs.Rgbe.{rgbeAt}
 use Rattle.light.specs.Light.{lightOf, isBlack, isMasked, darker, brighter}
 use Rattle.survey.specs.Survey.{times, seen, seenTimes, Alike, surveyOf}
@@ -72,7 +72,7 @@ alike-one store i k l = let place : i + 4 * k ≡ i = omega arith in ap (rgbeAt 
 
 -- one more
 pub alike-more : (store : List ℕ) (i j k : ℕ) (b : Bool) → Alike store i k → j ≡ i + 4 * k → (b ≡ true → rgbeAt store j ≡ rgbeAt store i) → b ≡ true → Alike store i (k + 1)
-alike-more store i j k b h e f t m l = ⊎-elim (λ (less : m < k). h m less) (λ (not-less : k ≤ m). here (omega arith)) (either m k)
+alike-more store i j k b h e f t m l = ⊎-elim (λ (less : m < k). h m less) (λ (not-less : k ≤ m). here (omega arith)) (lt-or-ge m k)
   where
     here : m ≡ k → rgbeAt store (i + 4 * m) ≡ rgbeAt store i
     here z = rw (z, ← e) (f t)

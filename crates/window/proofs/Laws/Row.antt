@@ -1,10 +1,8 @@
 -- The laws of `specs/Row.antt`: of what the code finds, and that what a part says of a row holds of the whole file, by any rule.
-use Prim.{Unit}
 use Prim.Native.Nat.{ℕ, _+_, _≤_}
 use mathlib.Core.Bool.{Bool, true, false, _&&_}
-use mathlib.Core.List.{List, [], _++_, append-nil}
+use mathlib.Core.List.{List, _++_, append-nil}
 use mathlib.Core.Path.{_≡_, refl, sym, ap, _∙_}
-use native.Mathlib.Omega.{arith}
 use borrow.Author.Tests.{leb-false, eqb-false}
 use lib.ListN.{length}
 use lib.Dec.{leb, eqb}
