@@ -1,2 +1,2 @@
 -- What the program's own contracts cite.
-pub mod View
+pub mod Inner

@@ -9,7 +9,7 @@ use crate::pen::Pen;
 use crate::say;
 use header::Head;
 ghost use Prim.Native.Nat.{_≤_};
-ghost use Rattle.sky.specs.View.{Held, Ended};
+ghost use Rattle.sky.specs.Inner.{Held, Ended};
 
 // Whether a row of the store cannot be written so that it is read as it is: a flat one with a pixel that starts 1, 1, 1.
 fn is_old_run(store: &[u8; 262140], width: usize) -> bool

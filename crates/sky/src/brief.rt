@@ -10,7 +10,7 @@ use crate::say;
 use header::Head;
 use survey::Totals;
 ghost use Prim.Native.Nat.{_≤_};
-ghost use Rattle.sky.specs.View.{Held};
+ghost use Rattle.sky.specs.Inner.{Held};
 
 // The names of the fields.
 pub(crate) fn names() {

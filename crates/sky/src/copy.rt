@@ -9,7 +9,7 @@ use crate::outcome::Outcome;
 use crate::say;
 use header::Head;
 ghost use Prim.Native.Nat.{_≤_};
-ghost use Rattle.sky.specs.View.{Held, Ended};
+ghost use Rattle.sky.specs.Inner.{Held, Ended};
 
 // Says that a file cannot be made where OUT is to stand.
 fn say_unmade(out: &[u8], error: i32) {

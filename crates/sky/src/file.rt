@@ -15,7 +15,7 @@ ghost use Prim.Native.Nat.{_*_, _≤_};
 ghost use lib.ListN.{length};
 ghost use Rattle.window.specs.Header.{HeadWithin};
 ghost use Rattle.window.specs.Row.{RowWithin};
-ghost use Rattle.sky.specs.View.{Held, Started, Stepped};
+ghost use Rattle.sky.specs.Inner.{Held, Started, Stepped};
 
 // What the window holds: the next byte to read, the end of its bytes, whether the file ends there, the number of a read that failed or 0, and how many bytes of the file lie before it.
 pub(crate) struct View {

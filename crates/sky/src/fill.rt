@@ -2,7 +2,7 @@
 use crate::file::View;
 ghost use Prim.Native.Nat.{_≤_};
 ghost use lib.ListN.{length};
-ghost use Rattle.sky.specs.View.{Held};
+ghost use Rattle.sky.specs.Inner.{Held};
 
 // The system's number of a read that failed; 0 where it did not.
 fn error_of(got: isize) -> i32 {

@@ -12,7 +12,7 @@ use header::Head;
 use survey::Totals;
 use writer::WriteAnswer;
 ghost use Prim.Native.Nat.{_≤_};
-ghost use Rattle.sky.specs.View.{Held};
+ghost use Rattle.sky.specs.Inner.{Held};
 
 // The longest that a file of these sizes can be.
 fn say_worst(width: usize, height: usize) {

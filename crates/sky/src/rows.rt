@@ -7,7 +7,7 @@ use crate::say;
 use header::Head;
 use survey::Totals;
 ghost use Prim.Native.Nat.{_+_, _≤_};
-ghost use Rattle.sky.specs.View.{Held, Ended};
+ghost use Rattle.sky.specs.Inner.{Held, Ended};
 
 // What the rows say, and how they end.
 pub(crate) struct Found {

@@ -9,7 +9,7 @@ use crate::outcome::Outcome;
 use crate::say;
 use header::Head;
 ghost use Prim.Native.Nat.{_≤_, _<_};
-ghost use Rattle.sky.specs.View.{Held, Ended};
+ghost use Rattle.sky.specs.Inner.{Held, Ended};
 
 // Reads the row k and counts its pixels.
 fn count_row(

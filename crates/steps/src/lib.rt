@@ -1,4 +1,4 @@
-// The small helpers that every crate above uses.
+// The small functions that every crate above uses.
 pub mod amount;
 pub mod refusal;
 

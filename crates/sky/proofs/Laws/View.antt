@@ -11,7 +11,7 @@ use Rattle.window.specs.declared.head.HeadPart.{HeadPart}
 use Rattle.window.specs.declared.head.HeadPart.the-variants as head
 use Rattle.window.specs.declared.RowPart.{RowPart}
 use Rattle.window.specs.declared.RowPart.the-variants as row
-use Rattle.sky.specs.View.{Started, Stepped, Ended}
+use Rattle.sky.specs.Inner.{Started, Stepped, Ended}
 use Rattle.sky.specs.declared.file.View.{View}
 use Rattle.sky.specs.declared.file.Start.{Start}
 use Rattle.sky.specs.declared.file.Start.the-variants as start

@@ -1,7 +1,7 @@
 -- `sky::anew::copy_rows` is safe and ends. The invariant: a whole outcome holds a window, and half of the room is free.
 use borrow.Author.Needs.{needs}
 use Prim.Native.Nat.{_-_, _≤_}
-use Rattle.sky.specs.View.{Ended}
+use Rattle.sky.specs.Inner.{Ended}
 use Rattle.sky.proofs.Laws.View.{ended-at, ended-end}
 use Rattle.sky.proofs.anew.copy_rows.Statement.{statement}
 use Rattle.sky.proofs.anew.copy_rows.Tie as tie

@@ -2,7 +2,7 @@
 use borrow.Author.Needs.{needs}
 use Prim.Native.Nat.{_*_, _-_, _≤_}
 use native.Mathlib.Omega.{arith}
-use Rattle.sky.specs.View.{Ended}
+use Rattle.sky.specs.Inner.{Ended}
 use Rattle.sky.proofs.Laws.View.{ended-at, ended-end}
 use Rattle.sky.proofs.rows.read_rows.Statement.{statement}
 use Rattle.sky.proofs.rows.read_rows.Tie as tie
