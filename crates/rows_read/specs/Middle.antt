@@ -2,7 +2,7 @@
 use Prim.Native.Nat.{ℕ, _+_, _<_, _≤_}
 use mathlib.Core.List.{List, _++_}
 use mathlib.Core.Path.{_≡_}
-use lib.ListN.{length}
+use lib.ListN.{length, take}
 use Rattle.steps.specs.declared.Taken.{Taken}
 use Rattle.steps.specs.declared.Taken.the-variants.{Done, Fault}
 use Rattle.rows_read.specs.Row.{RowRule}
@@ -28,9 +28,20 @@ abbrev pub Behind : RowRule → Type 0
 Behind rule =
     (src rest : List ℕ) (at : ℕ) (store : List ℕ) (width : ℕ) → Settled (length src) (rule src at store width .0) → rule (src ++ rest) at store width ≡ rule src at store width
 
--- from the end of the bytes on no answer is settled
-abbrev pub NonePast : RowRule → Type 0
-NonePast rule = (src : List ℕ) (at : ℕ) (store : List ℕ) (width : ℕ) → length src ≤ at → Settled (length src) (rule src at store width .0) → ⊥
+-- the first n bytes are there in both, and the same
+abbrev pub Alike : ℕ → List ℕ → List ℕ → Type 0
+Alike n src other = (n ≤ length src) × (n ≤ length other) × (take n other ≡ take n src)
+
+-- An answer that rests on the first n bytes of `long`: none behind them was taken, or the fault is not that bytes are missing and those are all.
+-- Where a reading takes a row whose last bytes are missing, `gap` bytes behind those taken show that none was: one in the crate reading (RULES 4.8).
+abbrev pub Rests : ℕ → ℕ → ℕ → Taken → Type 0
+Rests gap long n (Done next) = (next ≤ n) × (next + gap ≤ long)
+Rests gap long n (Fault number) = (number ≡ 9 → ⊥) × (long ≤ n)
+
+-- other bytes behind those that an answer rests on, more of them or fewer: it is the same
+abbrev pub Alone : ℕ → RowRule → Type 0
+Alone gap rule =
+    (src other : List ℕ) (n at : ℕ) (store : List ℕ) (width : ℕ) → Alike n src other → Rests gap (length src) n (rule src at store width .0) → rule other at store width ≡ rule src at store width
 
 -- bytes before it and behind it
 abbrev pub Anywhere : RowRule → Type 0
