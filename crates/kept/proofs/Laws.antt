@@ -15,6 +15,7 @@ pub mod Lent
 pub mod Step
 pub mod Sharp
 pub mod Alone
+pub mod Whole
 pub mod Skies
 pub mod Shown
 pub mod RadianceValues

@@ -1,6 +1,7 @@
 -- The cut that is not refused, of a whole file: its last row is coded, and the bytes end inside what that row's last count asks for.
 use Prim.Native.Nat.{ℕ, zero, suc, _+_, _*_, _<_, _≤_}
-use mathlib.Core.List.{List}
+use mathlib.Core.List.{List, _++_}
+use mathlib.Core.Logic.{_⊎_}
 use mathlib.Core.Path.{_≡_}
 use lib.Ieee.{Float}
 use lib.ListN.{length}
@@ -9,9 +10,9 @@ use Rattle.steps.specs.Answer.{done}
 use Rattle.header.specs.declared.Head.{Head}
 use Rattle.header.specs.Head.{headerOf}
 use Rattle.rows_read.specs.Row.{crateRow}
-use Rattle.rows_read.specs.Cut.{CutRow}
+use Rattle.rows_read.specs.Cut.{Short, CutRow}
 use Rattle.reader.specs.Frame.{Stored, storedOf, cleared, Rows, rows, rowTurn}
-use Rattle.reader.specs.Read.{cratePixel}
+use Rattle.reader.specs.Read.{cratePixel, readBy}
 
 -- after n rows more, from x on, the reader is at y
 abbrev pub AfterRows : List ℕ → Stored → ℕ → Rows → Rows → Type 0
@@ -32,3 +33,12 @@ pub record CutFile (bytes : List ℕ) (widest highest : ℕ) (out : List Float) 
   pub is-last : last .row + 1 ≡ head .height
   -- and the last is cut
   pub cut : CutRow bytes (last .at) (last .store) (head .width)
+
+-- No picture rests on a missing byte, but for that cut: of a file that is read, whose header says a height above 0, a byte is missing there,
+-- or whatever is added behind its bytes changes nothing.
+abbrev pub WholeOrCut : Type 0
+WholeOrCut =
+    (bytes : List ℕ) (widest highest : ℕ) (out out′ : List Float) (store store′ : List ℕ) (head : Head)
+    → readBy crateRow cratePixel bytes widest highest out store ≡ (done head, out′, store′) → 0 < head .height
+    → ((c : CutFile bytes widest highest out store) × Short bytes (c .head .width) (c .cut .end))
+    ⊎ ((rest : List ℕ) → readBy crateRow cratePixel (bytes ++ rest) widest highest out store ≡ (done head, out′, store′))

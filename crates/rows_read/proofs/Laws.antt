@@ -1,4 +1,4 @@
--- The laws of the definitions in `specs/`; `Kept` and `Alike` hold what the others share, `AloneChannels` and `AloneFlat` what `Behind` rests on; `Bounds`, `Nine`, `Behind` and `Before` what a caller uses, `Cut` what is read where bytes end too early and nothing is refused.
+-- The laws of the definitions in `specs/`; `Kept` and `Alike` hold what the others share, `AloneChannels` and `AloneFlat` what `Behind` rests on; `Bounds`, `Nine`, `Behind` and `Before` what a caller uses, `Cut` what is read where bytes end too early and nothing is refused, `Whole` that there is no other such row.
 pub mod Kept
 pub mod Row
 pub mod Bounds
@@ -9,3 +9,4 @@ pub mod AloneChannels
 pub mod AloneFlat
 pub mod Behind
 pub mod Before
+pub mod Whole

@@ -6,7 +6,7 @@ use mathlib.Core.Path.{_≡_}
 use lib.ListN.{length, getD, drop, replicate}
 use Rattle.steps.specs.Loop.{more}
 use Rattle.steps.specs.declared.Taken.the-variants.{Done}
-use Rattle.channels_read.specs.Channel.{Chan, chan, crateCount, spanLength, channelTurn, channelOf}
+use Rattle.channels_read.specs.Channel.{Chan, chan, crateCount, spanLength, spanTaken, channelTurn, channelOf}
 use Rattle.rows_read.specs.declared.kind.Kind.the-variants.{Channels}
 use Rattle.rows_read.specs.Row.{isFlatWidth, kindOf, crateStart}
 
@@ -23,6 +23,10 @@ pub record CutAt (src : List ℕ) (width : ℕ) (x : Chan) : Type 0 where
   pub last : width ≤ x .done + spanLength (getD src (x .at) 0)
   pub run : 128 < getD src (x .at) 0 → length src ≡ x .at + 1
   pub literals : getD src (x .at) 0 ≤ 128 → length src ≤ x .at + 1 + (width - x .done)
+
+-- of the bytes that the count asks for one at least is missing
+abbrev pub Short : List ℕ → ℕ → Chan → Type 0
+Short src width x = length src < x .at + 1 + spanTaken (getD src (x .at) 0) (width - x .done)
 
 -- how many bytes stand behind that count
 abbrev pub behind : List ℕ → Chan → ℕ

@@ -115,7 +115,7 @@ other-than : (n p : ℕ) (out out′ : List Float) (store store′ : List ℕ) (
 other-than n p out out′ store store′ head e = differ head n p (sym (ap (λ (z : Answer Head × List Float × List ℕ). z .0) e))
 
 -- a header that ends among the first n bytes, and before the end of all
-header-alone : (bytes other : List ℕ) (n widest highest : ℕ) (head : Head) → Alike n bytes other → headerOf bytes widest highest ≡ done head → Near 1 (length bytes) n (head .taken)
+pub header-alone : (bytes other : List ℕ) (n widest highest : ℕ) (head : Head) → Alike n bytes other → headerOf bytes widest highest ≡ done head → Near 1 (length bytes) n (head .taken)
     → headerOf other widest highest ≡ done head
 header-alone bytes other n widest highest head alike e near =
     let parted : take n bytes ++ drop n bytes ≡ bytes = take-append-drop n bytes in

@@ -232,6 +232,16 @@ row-took src at store width =
         (λ h e m. record { upto = λ next f. let r = channels-took src (at + 4) s width (omega arith) .upto next f in (omega arith, omega (arith, r .1), λ l. omega (arith, r .2 l)) })
         (λ h e m. record { upto = λ next f. let r = flat-took src (at + 4) s 4 (width - 1) .upto next f in (omega arith, omega (arith, r), λ l. omega (arith, r)) })
 
+-- where there are pixels, a row that is done has its first byte
+pub row-some : (src : List ℕ) (at : ℕ) (store : List ℕ) (width next : ℕ) → 0 < width → at ≤ length src → crateRow src at store width .0 ≡ Done next → at < length src
+row-some src at store width next w h e =
+    let inside = crate-sound src at store width .onward next e h in
+    by-flat inside (isFlatWidth width) refl
+  where
+    by-flat : (at ≤ next) × (next ≤ length src) → (b : Bool) → isFlatWidth width ≡ b → at < length src
+    by-flat inside true t = omega (arith, row-took src at store width .0 t .upto next e, inside .1)
+    by-flat inside false t = row-took src at store width .1 t .upto next e .0
+
 -- ---- The rows of a file
 
 -- rows that are done end at a place of the bytes that is not before p

@@ -32,7 +32,7 @@ pub record CountAlone (gap : ℕ) (rule : CountRule) : Type 0 where
   pub same : (src other : List ℕ) (n at done width : ℕ) → Alike n src other → at < n → CountRests src n at (rule src at done width) → rule other at done width ≡ rule src at done width
 
 module _ (src other : List ℕ) (n : ℕ) (alike : Alike n src other) (channel c k : ℕ) (x : Chan) (h : x .at + 1 + spanTaken c k ≤ n) where
-  span-same : spanOf other channel c k x ≡ spanOf src channel c k x
+  pub span-same : spanOf other channel c k x ≡ spanOf src channel c k x
   unfolding spanOf spanTaken spanBytes
   span-same = go (isRun c) refl
     where
@@ -107,7 +107,7 @@ module _ (gap : ℕ) (small : gap ≤ 1) (rule : CountRule) (alone : CountAlone 
       halted : {a b : Taken × List ℕ} → _≡_ {A = Turn Chan (Taken × List ℕ)} (halt a) (halt b) → a ≡ b
       halted k = cc
 
-  channel-alone : (at : ℕ) (store : List ℕ) → Firm gap (length src) n (channelOf rule src at store channel width) → channelOf rule other at store channel width ≡ channelOf rule src at store channel width
+  pub channel-alone : (at : ℕ) (store : List ℕ) → Firm gap (length src) n (channelOf rule src at store channel width) → channelOf rule other at store channel width ≡ channelOf rule src at store channel width
   unfolding channelOf
   channel-alone at store firm =
       let a = channelOf rule src at store channel width in

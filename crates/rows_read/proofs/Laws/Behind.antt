@@ -28,7 +28,7 @@ KindRests n at (kind.Pixel next) = at + 4 ≤ n
 KindRests n at (kind.Channels next) = at + 4 ≤ n
 
 module _ (src other : List ℕ) (n : ℕ) (alike : Alike n src other) where
-  kind-same : (at : ℕ) → KindRests n at (kindOf src at) → kindOf other at ≡ kindOf src at
+  pub kind-same : (at : ℕ) → KindRests n at (kindOf src at) → kindOf other at ≡ kindOf src at
   kind-same at =
       kind-cases src at (λ (z : Kind). KindRests n at z → kindOf other at ≡ z)
       (λ none. absurd none)
@@ -103,11 +103,11 @@ alone-behind gap small rule alone src rest at store width settled = alone src (s
 
 -- ---- The crate reading
 
-crate-count-alone : CountAlone 1 crateCount
+pub crate-count-alone : CountAlone 1 crateCount
 unfolding crateCount
 crate-count-alone = record { whole = λ src at done width k e h. omega arith; same = λ src other n at done width alike h sure. rw (byte-same src other n alike at h) }
 
-crate-flat-alone : FlatAlone crateFlat
+pub crate-flat-alone : FlatAlone crateFlat
 unfolding crateFlat repeated
 crate-flat-alone = record {
   onward = λ src start x h. omega arith;
@@ -122,7 +122,7 @@ module _ (src other : List ℕ) (n : ℕ) (alike : Alike n src other) (at : ℕ)
       let k : min 2 (length src - (at + 1)) ≡ 2 = omega (arith, alike .0) in
       rw (m, k, byte-same src other n alike at (omega arith), bytes-same src other n alike (at + 1) 2 (omega arith))
 
-  start-alone : KindRests n at (kindOf src at) → crateStart other at store ≡ crateStart src at store
+  pub start-alone : KindRests n at (kindOf src at) → crateStart other at store ≡ crateStart src at store
   unfolding crateStart
   start-alone rests = rw (kind-same src other n alike at rests) (by-kinds rests)
     where
