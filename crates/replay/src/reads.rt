@@ -107,6 +107,28 @@ pub(crate) fn head(
     }
 }
 
+// The last field of such a line, BYTES, from `at` on, with the buffers that are lent.
+fn read_bytes(
+    line: &[u8],
+    at: usize,
+    widest: usize,
+    highest: usize,
+    bytes: &mut [u8],
+    out: &mut [f32],
+    store: &mut [u8],
+    page: &mut [u8; 65536],
+    put: usize,
+) -> usize
+    requires { ⌜ put ≤ 65536 ⌝ }
+    ensures { λ r. ⌜ r ≤ 65536 ⌝ }
+{
+    let count = hex::bytes_at(line, at, bytes);
+    match count {
+        Number::Is(n) => answer_file(&bytes[..n], widest, highest, out, store, page, put),
+        Number::Missing => print::unknown(page, put),
+    }
+}
+
 // `read MAXW MAXH OUTLEN STORELEN BYTES`, the fields from OUTLEN on from `at` on.
 pub(crate) fn read(
     line: &[u8],
@@ -137,17 +159,7 @@ pub(crate) fn read(
     if lent.len() < kept {
         return print::unknown(page, put);
     }
-    let count = hex::bytes_at(line, next, bytes);
-    match count {
-        Number::Is(n) => answer_file(
-            &bytes[..n],
-            widest,
-            highest,
-            &mut samples[..room],
-            &mut lent[..kept],
-            page,
-            put,
-        ),
-        Number::Missing => print::unknown(page, put),
-    }
+    let out = &mut samples[..room];
+    let store = &mut lent[..kept];
+    read_bytes(line, next, widest, highest, bytes, out, store, page, put)
 }

@@ -1,7 +1,6 @@
--- `replay::reads::read` is safe and ends: the bytes that were read fit, and so do both buffers.
+-- `replay::reads::read` is safe and ends: both buffers fit.
 use borrow.Author.Needs.{needs}
 use Rattle.line_fields.proofs.Laws.Filled.{front}
-use Rattle.hex.proofs.Laws.Hex.{bytes-fit}
 use Rattle.replay.proofs.reads.read.Statement.{statement}
 use Rattle.replay.proofs.reads.read.Tie as tie
 
@@ -32,38 +31,20 @@ unknown-requires-3 c κs = search needs
 returns-3 : tie.Need-returns-3
 returns-3 c = search needs
 
-bytes-at-requires : tie.Need-bytes-at-requires
-bytes-at-requires c κs = search needs
+slice-relend-prefix-out : tie.Need-slice-relend-prefix-out
+slice-relend-prefix-out c = search needs
 
-enum-known-count : tie.Need-enum-known-count
-enum-known-count c = search needs
+slice-aggregate-out : tie.Need-slice-aggregate-out
+slice-aggregate-out c = search front
 
-slice-reshare-prefix-answer-file : tie.Need-slice-reshare-prefix-answer-file
-slice-reshare-prefix-answer-file c = search bytes-fit
+slice-relend-prefix-store : tie.Need-slice-relend-prefix-store
+slice-relend-prefix-store c = search needs
 
-slice-aggregate-answer-file : tie.Need-slice-aggregate-answer-file
-slice-aggregate-answer-file c = search (front, bytes-fit)
+slice-aggregate-store : tie.Need-slice-aggregate-store
+slice-aggregate-store c = search front
 
-slice-relend-prefix-answer-file : tie.Need-slice-relend-prefix-answer-file
-slice-relend-prefix-answer-file c = search needs
-
-slice-aggregate-answer-file-2 : tie.Need-slice-aggregate-answer-file-2
-slice-aggregate-answer-file-2 c = search front
-
-slice-relend-prefix-answer-file-2 : tie.Need-slice-relend-prefix-answer-file-2
-slice-relend-prefix-answer-file-2 c = search needs
-
-slice-aggregate-answer-file-3 : tie.Need-slice-aggregate-answer-file-3
-slice-aggregate-answer-file-3 c = search front
-
-answer-file-requires : tie.Need-answer-file-requires
-answer-file-requires c κs = search needs
-
-enum-told-2 : tie.Need-enum-told-2
-enum-told-2 c = search needs
-
-unknown-requires-4 : tie.Need-unknown-requires-4
-unknown-requires-4 c κs = search needs
+read-bytes-requires : tie.Need-read-bytes-requires
+read-bytes-requires c κs = search needs
 
 same-length : tie.Need-same-length
 same-length c = search needs
@@ -76,12 +57,6 @@ same-length-3 c = search needs
 
 returns-4 : tie.Need-returns-4
 returns-4 c = search needs
-
-same-length-4 : tie.Need-same-length-4
-same-length-4 c = search needs
-
-returns-5 : tie.Need-returns-5
-returns-5 c = search needs
 
 pub read-spec : {M : Type 1} → statement M
 read-spec =
@@ -96,20 +71,12 @@ read-spec =
     returns-2
     unknown-requires-3
     returns-3
-    bytes-at-requires
-    enum-known-count
-    slice-reshare-prefix-answer-file
-    slice-aggregate-answer-file
-    slice-relend-prefix-answer-file
-    slice-aggregate-answer-file-2
-    slice-relend-prefix-answer-file-2
-    slice-aggregate-answer-file-3
-    answer-file-requires
-    enum-told-2
-    unknown-requires-4
+    slice-relend-prefix-out
+    slice-aggregate-out
+    slice-relend-prefix-store
+    slice-aggregate-store
+    read-bytes-requires
     same-length
     same-length-2
     same-length-3
-    returns-4
-    same-length-4
-    returns-5)
+    returns-4)
