@@ -43,7 +43,3 @@ sizeOf field = valueFrom 0 (unsigned field)
 -- the number that digits stand for, after those that stand for n, if it is below 2^64
 unfoldable pub numberFrom : ℕ → List ℕ → Size
 numberFrom n xs = pick (isNumber n xs) (Number (valueFrom n xs)) NoNumber
-
--- what a field says as a size
-unfoldable pub sizeAnswer : List ℕ → Size
-sizeAnswer field = pick (isSize field) (Number (sizeOf field)) NoNumber

@@ -1,6 +1,7 @@
 // Sizes: digits with an optional plus.
 ghost use mathlib.Core.Path.{_≡_};
-ghost use Rattle.words.specs.Sizes.{unsigned, numberFrom, sizeAnswer};
+ghost use Rattle.words.specs.Sizes.{unsigned, numberFrom};
+ghost use Rattle.words.specs.Inner.{sizeAnswer};
 ghost use mathlib.Core.List.{_∷_, []};
 
 // What a field says as a size.

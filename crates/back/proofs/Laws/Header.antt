@@ -14,7 +14,8 @@ use Rattle.steps.proofs.Laws.Turns.{and-left, and-right}
 use Rattle.steps.proofs.Laws.Place.{drop-past}
 use Rattle.words.specs.Lines.{lineFeed, space, upTo, past, between, same, isFirst, linesEnd}
 use Rattle.words.specs.Fields.{isBlank, trimStart, trimEnd, trim, minusY, plusX, axesOf}
-use Rattle.words.specs.Sizes.{isDigit, allDigits, valueFrom, isNumber, isSome, isSize, sizeOf, sizeAnswer}
+use Rattle.words.specs.Sizes.{isDigit, allDigits, valueFrom, isNumber, isSome, isSize, sizeOf}
+use Rattle.words.specs.Inner.{sizeAnswer}
 use Rattle.header.specs.Head.{limit, head, headerOf}
 use Rattle.header.specs.Written.{digits, written}
 use Rattle.words.specs.declared.sizes.Size.the-variants.{Number}

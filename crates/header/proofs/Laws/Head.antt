@@ -11,7 +11,8 @@ use Rattle.steps.specs.Answer.{Answer, refuse, done}
 use Rattle.steps.proofs.Laws.Answer.{passed, callOf, one-answer}
 use Rattle.words.specs.Lines.{lineFeed, space, past, between, firstLine, isFirst, linesEnd}
 use Rattle.words.specs.Fields.{Fields, trim, fieldsAt, axesOf}
-use Rattle.words.specs.Sizes.{sizeOf, isSize, sizeAnswer}
+use Rattle.words.specs.Sizes.{sizeOf, isSize}
+use Rattle.words.specs.Inner.{sizeAnswer}
 use Rattle.words.proofs.Laws.Lines.{past-within, lines-within}
 use Rattle.header.specs.Head.{head, fieldsOf, heightField, widthField, isOther, headOf, headChecks, headerOf, paperOf, HeaderPromise}
 use Rattle.header.specs.Inner.{sizesAnswer, fieldsAnswer}

@@ -11,7 +11,8 @@ use lib.ListN.{length, getD, take, drop, drop-of-length-le}
 use lib.Seq.{drop-cons, take-all}
 use lib.Dec.{ltb}
 use Rattle.steps.specs.Loop.{pick}
-use Rattle.words.specs.Sizes.{unsigned, isDigit, allDigits, valueFrom, isNumber, isSome, isSize, sizeOf, numberFrom, sizeAnswer}
+use Rattle.words.specs.Sizes.{unsigned, isDigit, allDigits, valueFrom, isNumber, isSome, isSize, sizeOf, numberFrom}
+use Rattle.words.specs.Inner.{sizeAnswer}
 use Rattle.words.specs.declared.sizes.Size.{Size}
 use Rattle.words.specs.declared.sizes.Size.the-variants.{Number, NoNumber}
 
