@@ -1,6 +1,6 @@
 -- `pixel::digits_of` meets its contract: the exponent field counts the binary digits.
 use mathlib.Core.Path.{_≡_}
-use Prim.Native.Nat.{ℕ, _+_, _/_, _^_, _<_}
+use Prim.Native.Nat.{_+_, _/_}
 use native.Mathlib.Omega.{arith}
 use lib.Ieee.{binary32, toBits, size}
 use lib.Ieee.Bits.{toBits-lt}
@@ -18,10 +18,7 @@ float-to-bits-result : tie.Need-float-to-bits-result
 float-to-bits-result c = bright-number (c .args .v) (c .pre .0)
 
 add-result : tie.Need-add-result
-add-result c = record { fits = short (toBits binary32 (c .args .v)) (toBits-lt binary32 (c .args .v) (passes _ (c .good .0 .1))) }
-  where
-    short : (b : ℕ) → b < 2 ^ 32 → b / 8388608 + 23 < 2 ^ 32
-    short b h = omega arith
+add-result c = record { fits = omega (arith, toBits-lt binary32 (c .args .v) (passes _ (c .good .0 .1))) }
 
 returns : tie.Need-returns
 returns c = digits-here c
