@@ -5,6 +5,7 @@ pub mod Turns
 pub mod Machines
 pub mod Width
 pub mod Order
+pub mod Taken
 pub mod Answer
 pub mod Numbered
 pub mod Amount

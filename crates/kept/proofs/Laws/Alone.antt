@@ -11,7 +11,7 @@ use Rattle.steps.specs.Loop.{Turn, more, halt, run}
 use Rattle.steps.specs.Answer.{Answer, done, refused, refuse}
 use Rattle.steps.proofs.Laws.Answer.{differ, passed-by}
 use Rattle.steps.proofs.Laws.Turns.{Leads, run-keeps}
-use Rattle.steps.proofs.Laws.Machines.{more-halt, same-run}
+use Rattle.steps.proofs.Laws.Machines.{more-halt, halted, same-run}
 use Rattle.steps.specs.declared.Taken.{Taken}
 use Rattle.steps.specs.declared.Taken.the-variants.{Done, Fault}
 use Rattle.header.specs.declared.Head.{Head}
@@ -92,9 +92,6 @@ module _ (rowRule : RowRule) (rule : SampleRule) (alone : Alone 1 rowRule) (past
       turn-same x (Fault number) s (faulted rowRule rule (stored .long) (stored .place (x .row)) bytes (x .at) (x .out) o (x .store) s number f .0)
       (subst (λ (z : Left). Firm (length bytes) n (z .0)) (sym (halted k)) firm) ∙ e)
       (λ l k. turn-over x l ∙ e) e
-    where
-      halted : {a b : Left} → _≡_ {A = Turn Rows Left} (halt a) (halt b) → a ≡ b
-      halted k = cc
 
   rows-alone : (at : ℕ) (out : List Float) (store : List ℕ) → Firm (length bytes) n (rowsOf rowRule rule bytes stored at out store .0)
       → rowsOf rowRule rule other stored at out store ≡ rowsOf rowRule rule bytes stored at out store
@@ -146,9 +143,10 @@ module _ (rowRule : RowRule) (rule : SampleRule) (alone : Alone 1 rowRule) (past
       let all = rowsOf rowRule rule bytes (storedOf h) (h .taken) out (cleared (storedOf h .long) store) in
       let through = passed-by (λ n. (refuse n, out, store)) (frameChecks h out store) (framed h all) (done head, out′, store′) (λ n k. other-than n 0 out out′ store store′ head k) e in
       let firm = rests h all (through .1) in
-      let far = rows-of-past rowRule rule past bytes (head .taken) (storedOf h) (h .taken) out (cleared (storedOf h .long) store) in
-      (rw (rows-alone rowRule rule alone past bytes other (head .taken) alike (storedOf h) (h .taken) out (cleared (storedOf h .long) store) firm) e,
-      near-or 1 (length bytes) (head .taken) (h .taken) (λ near. near) (λ no. absurd (far no firm)))
+      let far = rows-of-past rowRule rule past bytes (head .taken) (storedOf h) (h .taken) out (cleared (storedOf h .long) store) in (
+        rw (rows-alone rowRule rule alone past bytes other (head .taken) alike (storedOf h) (h .taken) out (cleared (storedOf h .long) store) firm) e,
+        near-or 1 (length bytes) (head .taken) (h .taken) (λ near. near) (λ no. absurd (far no firm)),
+      )
 
   by-header : (a : Answer Head) → headerOf bytes widest highest ≡ a → readBy rowRule rule bytes widest highest out store ≡ (done head, out′, store′)
       → readBy rowRule rule other widest highest out store ≡ (done head, out′, store′)

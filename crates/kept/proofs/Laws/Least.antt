@@ -12,6 +12,7 @@ use lib.ListN.{length, getD}
 use lib.Ieee.{Float}
 use Rattle.steps.specs.Loop.{Turn, lead, run}
 use Rattle.steps.specs.Answer.{Answer, done, refused, refuse}
+use Rattle.steps.proofs.Laws.Taken.{never-both}
 use Rattle.steps.specs.declared.Taken.{Taken}
 use Rattle.steps.specs.declared.Taken.the-variants.{Done, Fault}
 use Rattle.steps.proofs.Laws.Turns.{and-left, by-test, Leads, run-keeps}
@@ -45,7 +46,7 @@ took-done : {p q : ℕ} {s : List ℕ} → p ≤ q → Took p (Done q, s)
 took-done {p} {q} h = record { upto = λ next e. let f : q ≡ next = cc in omega arith }
 
 took-fault : {p number : ℕ} {s : List ℕ} → Took p (Fault number, s)
-took-fault = record { upto = λ next e. let z : _≡_ {A = ℕ} 0 1 = cc in omega arith }
+took-fault {number = number} = record { upto = λ next e. never-both next number (sym e) }
 
 took-less : {p q : ℕ} {a : Taken × List ℕ} → p ≤ q → Took q a → Took p a
 took-less h t = record { upto = λ next e. omega (arith, t .upto next e) }
@@ -153,7 +154,7 @@ record Coded (src : List ℕ) (at n : ℕ) (a : Taken × List ℕ) : Type 0 wher
   pub upto : (next : ℕ) → a .0 ≡ Done next → (at < length src) × (at + n ≤ next + 1) × (next < length src → at + n ≤ next)
 
 coded-fault : {src : List ℕ} {at n number : ℕ} {s : List ℕ} → Coded src at n (Fault number, s)
-coded-fault = record { upto = λ next e. let z : _≡_ {A = ℕ} 0 1 = cc in absurd (omega arith) }
+coded-fault {number = number} = record { upto = λ next e. never-both next number (sym e) }
 
 channel-took : (src : List ℕ) (at : ℕ) (store : List ℕ) (channel width : ℕ) → 0 < width → Coded src at 2 (channelOf crateCount src at store channel width)
 unfolding channelOf crateCount spanOf spanTaken

@@ -133,7 +133,7 @@ module _ (bytes : List ℕ) (widest highest : ℕ) (out out′ : List Float) (st
       let stored = storedOf h in
       let all = rowsOf crateRow cratePixel bytes stored (h .taken) out (cleared (stored .long) store) in
       let through = passed-by (λ n. (refuse n, out, store)) (frameChecks h out store) (framed h all) (done head, out′, store′)
-          (λ n k. differ head n 0 (sym (ap (λ (z : Answer Head × List Float × List ℕ). z .0) k))) e in
+      (λ n k. differ head n 0 (sym (ap (λ (z : Answer Head × List Float × List ℕ). z .0) k))) e in
       let left = framed-done h all (through .1) in
       let count : h .height ≡ head .height = ap (λ (x : Head). x .height) (left .2) in
       let wide : 0 < h .width = omega (arith, eqb-false (h .width) 0 (through .0 .1 .0)) in
@@ -141,18 +141,21 @@ module _ (bytes : List ℕ) (widest highest : ℕ) (out out′ : List Float) (st
       let x = rows (h .taken) 0 (cleared (stored .long) store) out in
       let begun : h .taken < length bytes = by-order (h .taken) (length bytes) (λ l. l) (λ l. absurd (omega (arith, at-end bytes stored wide (stored .count + 1) x (left .0) out′ store′ inside (left .1) l))) in
       ⊎-elim
-      (λ (n, y, after, last, c, short). inl (record {
-        head = h;
-        header = eh;
-        room = ltb-false (length out) (h .height * (3 * h .width)) (through .0 .0);
-        some = wide;
-        row = ltb-false (length store) (4 * h .width) (through .0 .1 .1 .0);
-        count = n;
-        last = y;
-        before = after;
-        is-last = last;
-        cut = c;
-      }, short))
+      (λ (n, y, after, last, c, short). inl (
+        record {
+          head = h;
+          header = eh;
+          room = ltb-false (length out) (h .height * (3 * h .width)) (through .0 .0);
+          some = wide;
+          row = ltb-false (length store) (4 * h .width) (through .0 .1 .1 .0);
+          count = n;
+          last = y;
+          before = after;
+          is-last = last;
+          cut = c;
+        },
+        short,
+      ))
       (λ same. inr (λ rest. same-file h eh begun e rest (same rest ∙ sym (left .1))))
       (rows-or bytes stored wide (stored .count + 1) x (left .0) out′ store′ inside (left .1))
 

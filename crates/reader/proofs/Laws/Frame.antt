@@ -12,6 +12,7 @@ use lib.Ieee.{Float}
 use Rattle.steps.specs.Loop.{run, Turn, more, halt}
 use Rattle.steps.specs.Place.{spread}
 use Rattle.steps.specs.Answer.{Answer, done, refused}
+use Rattle.steps.proofs.Laws.Taken.{never-both}
 use Rattle.steps.specs.declared.Taken.{Taken}
 use Rattle.steps.specs.declared.Taken.the-variants.{Done, Fault}
 use Rattle.steps.proofs.Laws.Loop.{Runs, runs-start, runs-more, runs-halt}
@@ -66,9 +67,6 @@ OfRow = Taken × List ℕ
 abbrev row-of : Answered → OfRow
 row-of z = (z .0, z .2)
 
-never-both : (next number : ℕ) → Done next ≡ Fault number → ⊥
-never-both next number e = let z : _≡_ {A = ℕ} 0 1 = cc in omega arith
-
 module _ (rowRule : RowRule) (rule : SampleRule) (long : ℕ) (place : ℕ → ℕ) (bytes : List ℕ) (at : ℕ) (out o : List Float) (store s : List ℕ) where
   by-row : (L : Answered → OfRow → Type 0) → ((t : Taken) (s′ : List ℕ) → L (stepped rule long place out t s′) (t, s′))
       → L (stepOf rowRule rule long place bytes at out store) (rowRule bytes at store long)
@@ -80,7 +78,7 @@ module _ (rowRule : RowRule) (rule : SampleRule) (long : ℕ) (place : ℕ → �
   faulted number = by-row (λ x y. _≡_ {A = Answered} (Fault number, o, s) x → (_≡_ {A = OfRow} (Fault number, s) y) × (o ≡ out)) by-taken
     where
       by-taken : (t : Taken) (s′ : List ℕ) → (Fault number, o, s) ≡ stepped rule long place out t s′ → (_≡_ {A = OfRow} (Fault number, s) (t, s′)) × (o ≡ out)
-      by-taken (Done next) s′ e = absurd (never-both next number (sym (ap (λ (z : Answered). z .0) e)))
+      by-taken (Done next) s′ e = never-both next number (sym (ap (λ (z : Answered). z .0) e))
       by-taken (Fault m) s′ e = (ap row-of e, ap (λ (z : Answered). z .1) e)
 
   -- done: its row is read, and its samples are put
@@ -89,7 +87,7 @@ module _ (rowRule : RowRule) (rule : SampleRule) (long : ℕ) (place : ℕ → �
     where
       by-taken : (t : Taken) (s′ : List ℕ) → (Done next, o, s) ≡ stepped rule long place out t s′ → (_≡_ {A = OfRow} (Done next, s) (t, s′)) × (o ≡ placed rule place s 0 long out)
       by-taken (Done m) s′ e = (ap row-of e, ap (λ (z : Answered). z .1) e ∙ ap (λ (l : List ℕ). placed rule place l 0 long out) (sym (ap (λ (z : Answered). z .2) e)))
-      by-taken (Fault m) s′ e = absurd (never-both next m (ap (λ (z : Answered). z .0) e))
+      by-taken (Fault m) s′ e = never-both next m (ap (λ (z : Answered). z .0) e)
 
 -- ---- Rows
 

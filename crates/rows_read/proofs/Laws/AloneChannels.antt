@@ -8,7 +8,7 @@ use borrow.Author.Tests.{lt-ltb, le-ltb}
 use lib.ListN.{length, getD}
 use Rattle.steps.specs.Loop.{Turn, more, halt, run}
 use Rattle.steps.proofs.Laws.Turns.{Leads, run-keeps, enough-turns}
-use Rattle.steps.proofs.Laws.Machines.{more-halt, same-run}
+use Rattle.steps.proofs.Laws.Machines.{more-halt, halted, same-run}
 use Rattle.steps.specs.declared.Taken.{Taken}
 use Rattle.steps.specs.declared.Taken.the-variants.{Done, Fault}
 use Rattle.channels_read.specs.Channel.{Chan, chan, Count, span, fault, CountRule, channelTurn, channelOut, channelOf, isRun, spanBytes, spanTaken, spanOf}
@@ -103,9 +103,6 @@ module _ (gap : ℕ) (small : gap ≤ 1) (rule : CountRule) (alone : CountAlone 
       turn-fault rule other channel width x number d (omega (arith, alike .1)) (alone .same src other n (x .at) (x .done) width alike here (subst (CountRests src n (x .at)) (sym f) sure) ∙ f) ∙ k)
       (λ d l k. absurd (subst (Firm gap (length src) n) (sym (halted k)) firm .0 refl))
       (λ d k. turn-done rule other channel width x d ∙ k) e
-    where
-      halted : {a b : Taken × List ℕ} → _≡_ {A = Turn Chan (Taken × List ℕ)} (halt a) (halt b) → a ≡ b
-      halted k = cc
 
   pub channel-alone : (at : ℕ) (store : List ℕ) → Firm gap (length src) n (channelOf rule src at store channel width) → channelOf rule other at store channel width ≡ channelOf rule src at store channel width
   unfolding channelOf
@@ -170,9 +167,6 @@ module _ (gap : ℕ) (small : gap ≤ 1) (rule : CountRule) (alone : CountAlone 
       (λ next s l f k. more-halt _ _ k)
       (λ number s l f k. chans-by x (Fault number) s l (read-same x (Fault number, s) f (subst (Firm gap (length src) n) (sym (halted k)) firm)) ∙ k)
       (λ l k. chans-whole rule other width x l ∙ k) e
-    where
-      halted : {a b : Taken × List ℕ} → _≡_ {A = Turn Chans (Taken × List ℕ)} (halt a) (halt b) → a ≡ b
-      halted k = cc
 
   pub channels-alone : (at : ℕ) (store : List ℕ) → Firm gap (length src) n (channelsOf rule src at store width) → channelsOf rule other at store width ≡ channelsOf rule src at store width
   unfolding channelsOf

@@ -11,6 +11,7 @@ use lib.Seq.{getD-drop}
 use Rattle.steps.specs.Place.{bytesFrom}
 use Rattle.steps.proofs.Laws.Place.{length-bytes}
 use Rattle.steps.proofs.Laws.Turns.{by-test, Leads, run-keeps}
+use Rattle.steps.proofs.Laws.Taken.{never-both}
 use Rattle.steps.specs.declared.Taken.{Taken}
 use Rattle.steps.specs.declared.Taken.the-variants.{Done, Fault}
 use Rattle.channels_read.specs.Channel.{Chan, CountRule, crateCount, channelOf, channelOut, channelTurn, isRun, spanBytes, spanOf}
@@ -50,7 +51,7 @@ module _ {src : List ℕ} {limit at : ℕ} {store : List ℕ} where
   sound-done {p} o = record { kept = o .kept; onward = λ next e h. let f : p ≡ next = cc in omega (arith, o .onward h) }
 
   pub sound-fault : {number : ℕ} {s : List ℕ} → Kept limit store s → Sound src limit at store (Fault number, s)
-  sound-fault k = record { kept = k; onward = λ next e h. let z : _≡_ {A = ℕ} 0 1 = cc in omega arith }
+  sound-fault {number} k = record { kept = k; onward = λ next e h. never-both next number (sym e) }
 
   pub sound-on : {p : ℕ} {s : List ℕ} → Sound src limit at store (Done p, s) → On src limit at store p s
   sound-on {p} r = record { kept = r .kept; onward = λ h. r .onward p refl h }

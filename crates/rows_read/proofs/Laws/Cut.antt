@@ -19,7 +19,7 @@ use Rattle.steps.proofs.Laws.Turns.{Falls}
 use Rattle.channels_read.specs.Channel.{Chan, chan, crateCount, isRun, spanLength, spanBytes, spanTaken, spanOf, channelTurn, channelOut, channelOf}
 use Rattle.channels_read.specs.Channels.{channelsOf}
 use Rattle.channels_read.proofs.Laws.Channel.{length-run, length-literals, crate-count, taken-run, taken-literals, turn-span, turn-done, span-onward, channel-starts, channel-falls}
-use Rattle.channels_read.proofs.Laws.Channels.{chans-starts, chans-again, chans-done}
+use Rattle.channels_read.proofs.Laws.Channels.{together}
 use Rattle.rows_read.specs.Row.{crateStart, crateRow}
 use Rattle.rows_read.specs.Cut.{After, CutAt, behind, filled, CutRow}
 use Rattle.rows_read.proofs.Laws.Row.{row-channels}
@@ -110,13 +110,18 @@ module _ (src : List ℕ) (at : ℕ) (store : List ℕ) (width : ℕ) (c : CutRo
 
   channels-cut : (Done (length src), cutStore) ≡ channelsOf crateCount src (at + 4) (crateStart src at store) width
   channels-cut =
-      let fourth = cut-channel src (c .exponent) (c .blues) 3 width (c .counts) (c .end) (c .after) (c .cut) in
-      let r0 = chans-starts crateCount src (at + 4) (crateStart src at store) width in
-      let r1 = chans-again crateCount src width (at + 4) 0 (crateStart src at store) _ r0 (Done (c .green)) (c .reds) (omega arith) (sym (c .first)) (c .green) refl in
-      let r2 = chans-again crateCount src width (c .green) 1 (c .reds) _ r1 (Done (c .blue)) (c .greens) (omega arith) (sym (c .second)) (c .blue) refl in
-      let r3 = chans-again crateCount src width (c .blue) 2 (c .greens) _ r2 (Done (c .exponent)) (c .blues) (omega arith) (sym (c .third)) (c .exponent) refl in
-      let r4 = chans-again crateCount src width (c .exponent) 3 (c .blues) _ r3 (Done (length src)) cutStore (omega arith) (sym fourth) (length src) refl in
-      chans-done crateCount src width (length src) 4 cutStore _ r4 (omega arith)
+      sym (together crateCount src (at + 4) (crateStart src at store) width (length src) cutStore (record {
+        green = c .green;
+        blue = c .blue;
+        exponent = c .exponent;
+        reds = c .reds;
+        greens = c .greens;
+        blues = c .blues;
+        first = c .first;
+        second = c .second;
+        third = c .third;
+        fourth = cut-channel src (c .exponent) (c .blues) 3 width (c .counts) (c .end) (c .after) (c .cut);
+      }))
 
   -- the row is done, and the place after it is the end of the bytes
   pub cut-row : crateRow src at store width ≡ (Done (length src), cutStore)

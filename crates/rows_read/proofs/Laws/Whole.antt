@@ -1,7 +1,7 @@
 -- A row that is done has all its bytes, and more behind them change nothing; or it is cut inside what its last count asks for.
 use Prim.{Unit}
 use Prim.Native.Nat.{ℕ, zero, suc, _+_, _-_, min, _<_, _≤_}
-use mathlib.Core.Bool.{Bool, true, false, false≢true}
+use mathlib.Core.Bool.{Bool, true, false}
 use mathlib.Core.List.{List}
 use mathlib.Core.Logic.{_⊎_, inl, inr, ⊎-elim}
 use mathlib.Core.Path.{_≡_, refl, sym, ap, subst, _∙_}
@@ -10,13 +10,12 @@ use lib.ListN.{length, getD}
 use Rattle.steps.proofs.Laws.Order.{by-order}
 use Rattle.steps.specs.Loop.{Turn, more, run, lead}
 use Rattle.steps.proofs.Laws.Machines.{same-run}
-use Rattle.steps.proofs.Laws.Loop.{Runs}
+use Rattle.steps.proofs.Laws.Taken.{fault-done}
 use Rattle.steps.specs.declared.Taken.{Taken}
-use Rattle.steps.specs.declared.Taken.the-variants.{Done, Fault}
+use Rattle.steps.specs.declared.Taken.the-variants.{Done}
 use Rattle.channels_read.specs.Channel.{Chan, chan, span, crateCount, channelTurn, channelOut, channelOf, spanLength, spanTaken, spanOf}
-use Rattle.channels_read.specs.Channels.{chans, chansTurn, chansOut, channelsOf}
 use Rattle.channels_read.proofs.Laws.Channel.{channel-cases, taken-run, taken-literals, turn-done, turn-short, turn-span}
-use Rattle.channels_read.proofs.Laws.Channels.{chans-starts, chans-again, chans-fault, chans-done}
+use Rattle.channels_read.proofs.Laws.Channels.{Four, apart, together}
 use Rattle.flat_read.specs.Flat.{crateFlat, flatOf}
 use Rattle.rows_read.specs.declared.kind.Kind.{Kind}
 use Rattle.rows_read.specs.declared.kind.Kind.the-variants as kind
@@ -29,14 +28,6 @@ use Rattle.rows_read.proofs.Laws.AloneFlat.{flat-alone}
 use Rattle.rows_read.proofs.Laws.Behind.{KindRests, kind-same, start-alone, crate-count-alone, crate-flat-alone}
 use Rattle.rows_read.proofs.Laws.Row.{kind-cases, not-flat}
 use Rattle.rows_read.proofs.Laws.Bounds.{row-onward, crate-sound}
-
--- a fault is not what was done
-fault-done : {X : Type 0} (number next : ℕ) (s s′ : List ℕ) → _≡_ {A = Taken × List ℕ} (Fault number, s) (Done next, s′) → X
-fault-done number next s s′ e = absurd (false≢true (sym (ap (λ (z : Taken × List ℕ). faulty (z .0)) e)))
-  where
-    faulty : Taken → Bool
-    faulty (Done next) = false
-    faulty (Fault number) = true
 
 -- ---- A channel
 
@@ -61,15 +52,16 @@ module _ (src : List ℕ) (channel width : ℕ) where
   cut-here x m d l f h w =
       let c : ℕ = getD src (x .at) 0 in
       let em : min (spanLength c) (width - x .done) ≡ m = cc in
-      let rest : m ≡ width - x .done = omega arith in
-      (record {
-        wants = d;
-        there = l;
-        last = omega arith;
-        run = λ g. omega (arith, taken-run c m g);
-        literals = λ g. omega (arith, taken-literals c m g);
-      },
-      subst (λ (k : ℕ). length src < x .at + 1 + spanTaken c k) rest h)
+      let rest : m ≡ width - x .done = omega arith in (
+        record {
+          wants = d;
+          there = l;
+          last = omega arith;
+          run = λ g. omega (arith, taken-run c m g);
+          literals = λ g. omega (arith, taken-literals c m g);
+        },
+        subst (λ (k : ℕ). length src < x .at + 1 + spanTaken c k) rest h,
+      )
 
   -- the count at x, where they are
   turn-same : (other : List ℕ) → Alike (length src) src other → (x : Chan) (m : ℕ) → x .done < width → x .at < length src → crateCount src (x .at) (x .done) width ≡ span m
@@ -124,59 +116,21 @@ module _ (src : List ℕ) (at : ℕ) (store : List ℕ) (channel width next : �
 
 -- ---- Four channels
 
-module _ (src : List ℕ) (width : ℕ) (some : 0 < width) (next : ℕ) (s : List ℕ) where
-  -- one of them, where all are done
-  one : (p c : ℕ) (store : List ℕ) → c < 4 → Runs (chansTurn crateCount src width) chansOut (4 - c) (chans p c store) (Done next, s)
-      → (n : ℕ) × (after : List ℕ) × (channelOf crateCount src p store c width ≡ (Done n, after)) × Runs (chansTurn crateCount src width) chansOut (4 - (c + 1)) (chans n (c + 1) after) (Done next, s)
-  one p c store h r = by (channelOf crateCount src p store c width .0) (channelOf crateCount src p store c width .1) refl
-    where
-      by : (t : Taken) (after : List ℕ) → (t, after) ≡ channelOf crateCount src p store c width
-          → (n : ℕ) × (after : List ℕ) × (channelOf crateCount src p store c width ≡ (Done n, after)) × Runs (chansTurn crateCount src width) chansOut (4 - (c + 1)) (chans n (c + 1) after) (Done next, s)
-      by (Done n) after e = (n, after, sym e, chans-again crateCount src width p c store (Done next, s) r (Done n) after h e n refl)
-      by (Fault number) after e = fault-done number next after s (chans-fault crateCount src width p c store (Done next, s) r (Fault number) after h e number refl)
-
--- four channels that are done, one after the other
-pub record Four (src : List ℕ) (at : ℕ) (store : List ℕ) (width next : ℕ) (s : List ℕ) : Type 0 where
-  pub green : ℕ
-  pub blue : ℕ
-  pub exponent : ℕ
-  pub reds : List ℕ
-  pub greens : List ℕ
-  pub blues : List ℕ
-  pub first : channelOf crateCount src at store 0 width ≡ (Done green, reds)
-  pub second : channelOf crateCount src green reds 1 width ≡ (Done blue, greens)
-  pub third : channelOf crateCount src blue greens 2 width ≡ (Done exponent, blues)
-  pub fourth : channelOf crateCount src exponent blues 3 width ≡ (Done next, s)
-
 module _ (src : List ℕ) (at : ℕ) (store : List ℕ) (width next : ℕ) (s : List ℕ) where
-  apart : 0 < width → channelsOf crateCount src at store width ≡ (Done next, s) → Four src at store width next s
-  apart some e =
-      let r0 = subst (Runs (chansTurn crateCount src width) chansOut (4 - 0) (chans at 0 store)) e (chans-starts crateCount src at store width) in
-      let a = one src width some next s at 0 store (omega arith) r0 in
-      let b = one src width some next s (a .0) 1 (a .1) (omega arith) (a .3) in
-      let c = one src width some next s (b .0) 2 (b .1) (omega arith) (b .3) in
-      let d = one src width some next s (c .0) 3 (c .1) (omega arith) (c .3) in
-      let end = chans-done crateCount src width (d .0) 4 (d .1) (Done next, s) (d .3) (omega arith) in
-      record { green = a .0; blue = b .0; exponent = c .0; reds = a .1; greens = b .1; blues = c .1; first = a .2; second = b .2; third = c .2; fourth = _∙_ {b = (Done (d .0), d .1)} (d .2) end }
-
-  together : Four src at store width next s → channelsOf crateCount src at store width ≡ (Done next, s)
-  together f =
-      let r0 = chans-starts crateCount src at store width in
-      let r1 = chans-again crateCount src width at 0 store _ r0 (Done (f .green)) (f .reds) (omega arith) (sym (f .first)) (f .green) refl in
-      let r2 = chans-again crateCount src width (f .green) 1 (f .reds) _ r1 (Done (f .blue)) (f .greens) (omega arith) (sym (f .second)) (f .blue) refl in
-      let r3 = chans-again crateCount src width (f .blue) 2 (f .greens) _ r2 (Done (f .exponent)) (f .blues) (omega arith) (sym (f .third)) (f .exponent) refl in
-      let r4 = chans-again crateCount src width (f .exponent) 3 (f .blues) _ r3 (Done next) s (omega arith) (sym (f .fourth)) next refl in
-      sym (chans-done crateCount src width next 4 s _ r4 (omega arith))
-
   -- with a fourth channel that is the same whatever follows, so are the four
-  four-same : 0 < width → (f : Four src at store width next s) → (other : List ℕ) → Alike (length src) src other → channelOf crateCount other (f .exponent) (f .blues) 3 width ≡ (Done next, s)
-      → Four other at store width next s
+  four-same : 0 < width → (f : Four crateCount src at store width next s) → (other : List ℕ) → Alike (length src) src other → channelOf crateCount other (f .exponent) (f .blues) 3 width ≡ (Done next, s)
+      → Four crateCount other at store width next s
   four-same some f other alike fourth =
       let in-g = some-left src (f .green) (f .reds) 1 width _ _ (f .second) some in
       let in-b = some-left src (f .blue) (f .greens) 2 width _ _ (f .third) some in
       let in-e = some-left src (f .exponent) (f .blues) 3 width _ _ (f .fourth) some in
       record {
-        green = f .green; blue = f .blue; exponent = f .exponent; reds = f .reds; greens = f .greens; blues = f .blues;
+        green = f .green;
+        blue = f .blue;
+        exponent = f .exponent;
+        reds = f .reds;
+        greens = f .greens;
+        blues = f .blues;
         first = before 0 at store (f .green) (f .reds) (f .first) in-g;
         second = before 1 (f .green) (f .reds) (f .blue) (f .greens) (f .second) in-b;
         third = before 2 (f .blue) (f .greens) (f .exponent) (f .blues) (f .third) in-e;
@@ -211,16 +165,32 @@ module _ (src : List ℕ) (at : ℕ) (store : List ℕ) (width next : ℕ) (s : 
         let there : KindRests (length src) at (kindOf src at) = subst (KindRests (length src) at) (sym ek) rests in
         simp coded (rw (kind-same src other (length src) alike at there, start-alone src other (length src) alike at store there, ek) (same other alike))
 
-    four-or : kindOf src at ≡ kind.Channels (at + 4) → at + 4 ≤ length src → Four src (at + 4) (crateStart src at store) width next s → Or
+    four-or : kindOf src at ≡ kind.Channels (at + 4) → at + 4 ≤ length src → Four crateCount src (at + 4) (crateStart src at store) width next s → Or
     unfolding crateParts
     four-or ek h f =
         let some : 0 < width = omega (arith, not-flat width false (sym coded) refl) in
         ⊎-elim
-        (λ (n, y, after, cut, short). inl (record {
-          coded = coded; mark = ek; green = f .green; blue = f .blue; exponent = f .exponent; reds = f .reds; greens = f .greens; blues = f .blues;
-          first = f .first; second = f .second; third = f .third; counts = n; end = y; after = after; cut = cut;
-        }, short))
-        (λ same. inr (by-start (kind.Channels (at + 4)) ek h (λ other alike. together other (at + 4) (crateStart src at store) width next s (four-same src (at + 4) (crateStart src at store) width next s some f other alike (same other alike)))))
+        (λ (n, y, after, cut, short). inl (
+          record {
+            coded = coded;
+            mark = ek;
+            green = f .green;
+            blue = f .blue;
+            exponent = f .exponent;
+            reds = f .reds;
+            greens = f .greens;
+            blues = f .blues;
+            first = f .first;
+            second = f .second;
+            third = f .third;
+            counts = n;
+            end = y;
+            after = after;
+            cut = cut;
+          },
+          short,
+        ))
+        (λ same. inr (by-start (kind.Channels (at + 4)) ek h (λ other alike. together crateCount other (at + 4) (crateStart src at store) width next s (four-same src (at + 4) (crateStart src at store) width next s some f other alike (same other alike)))))
         (channel-or-cut src (f .exponent) (f .blues) 3 width next s (f .fourth))
 
     by-kind : restBy crateParts src at width (kindOf src at) (crateStart src at store) ≡ (Done next, s) → Or
@@ -229,7 +199,7 @@ module _ (src : List ℕ) (at : ℕ) (store : List ℕ) (width next : ℕ) (s : 
         kind-cases src at (λ (z : Kind). kindOf src at ≡ z → restBy crateParts src at width z (crateStart src at store) ≡ (Done next, s) → Or)
         (λ ek e. fault-done 9 next _ s e)
         (λ h b ek e. inr (by-start kind.Flat ek h (flat-full at (crateStart src at store) 0 width e)))
-        (λ h b m ek e. four-or ek h (apart src (at + 4) (crateStart src at store) width next s (omega (arith, not-flat width false (sym coded) refl)) e))
+        (λ h b m ek e. four-or ek h (apart crateCount src (at + 4) (crateStart src at store) width next s e))
         (λ h b m ek e. inr (by-start (kind.Pixel (at + 4)) ek h (flat-full (at + 4) (crateStart src at store) 4 (width - 1) e)))
         refl
 

@@ -13,6 +13,10 @@ more-halt s a e = let z : _≡_ {A = ℕ} 0 1 = cc in absurd (no z)
     no : _≡_ {A = ℕ} 0 1 → ⊥
     no z = omega arith
 
+-- a turn halts with one answer
+pub halted : {S A : Type 0} {a b : A} → _≡_ {A = Turn S A} (halt a) (halt b) → a ≡ b
+halted k = cc
+
 -- ---- In other words
 
 -- a turn, its state and its answer in other words
