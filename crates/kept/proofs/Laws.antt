@@ -2,6 +2,7 @@
 pub mod Longest
 pub mod Ahead
 pub mod Reached
+pub mod Done
 pub mod Least
 pub mod Numbered
 pub mod Known

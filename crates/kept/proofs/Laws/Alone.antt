@@ -1,5 +1,5 @@
 -- Bytes behind those taken change nothing, by any rule for rows of which that holds at one row; by the crate reading.
-use Prim.Native.Nat.{ℕ, _+_, _<_, _≤_}
+use Prim.Native.Nat.{ℕ, _+_, _≤_}
 use mathlib.Core.List.{List, _++_}
 use mathlib.Core.Path.{_≡_, refl, sym, ap, subst, _∙_}
 use native.Mathlib.Omega.{arith}
@@ -8,14 +8,12 @@ use lib.Ieee.{Float}
 use lib.ListN.{length, take, drop, take-append-drop}
 use lib.Seq.{length-take-le}
 use Rattle.steps.specs.Loop.{Turn, more, halt, run}
-use Rattle.steps.specs.Answer.{Answer, done, refused, refuse}
-use Rattle.steps.proofs.Laws.Answer.{differ, passed-by}
+use Rattle.steps.specs.Answer.{Answer, done, refused}
 use Rattle.steps.proofs.Laws.Turns.{Leads, run-keeps}
 use Rattle.steps.proofs.Laws.Machines.{more-halt, halted, same-run}
 use Rattle.steps.specs.declared.Taken.{Taken}
 use Rattle.steps.specs.declared.Taken.the-variants.{Done, Fault}
 use Rattle.header.specs.declared.Head.{Head}
-use Rattle.header.specs.declared.HeadAnswer.the-variants.{Read, Refused}
 use Rattle.header.specs.Head.{fieldsOf, headerOf}
 use Rattle.header.proofs.Laws.Head.{header-taken}
 use Rattle.words.proofs.Laws.Rest.{Inside}
@@ -26,11 +24,10 @@ use Rattle.rows_read.proofs.Laws.Alike.{Near, near-or, NonePast}
 use Rattle.rows_read.proofs.Laws.Behind.{crate-alone, crate-past}
 use Rattle.reader.specs.Samples.{SampleRule}
 use Rattle.reader.specs.Frame.{Stored, storedOf, cleared, stepOf, Rows, rows, Left, rowTurn, noRows, rowsOf}
-use Rattle.reader.specs.Read.{frameChecks, framed, answerOf, readBy, cratePixel}
-use Rattle.reader.specs.Inner.{frameAnswer}
+use Rattle.reader.specs.Read.{cratePixel}
 use Rattle.reader.proofs.Laws.Frame.{faulted, went-on, rows-cases}
-use Rattle.reader.proofs.Laws.Read.{read-frame, read-refused}
 use Rattle.kept.specs.Alone.{TakenAlone}
+use Rattle.kept.proofs.Laws.Done.{rowsBy, file-read, read-file}
 
 -- the rows' answer rests on the first n bytes of `long`: as at one row, with one byte behind them
 abbrev Firm : ℕ → ℕ → Answer ℕ → Type 0
@@ -107,10 +104,6 @@ module _ (rowRule : RowRule) (rule : SampleRule) (alone : Alone 1 rowRule) (past
 
 -- ---- The whole file
 
--- a refusal is not what was done
-other-than : (n p : ℕ) (out out′ : List Float) (store store′ : List ℕ) (head : Head) → _≡_ {A = Answer Head × List Float × List ℕ} (refused n p, out, store) (done head, out′, store′) → ⊥
-other-than n p out out′ store store′ head e = differ head n p (sym (ap (λ (z : Answer Head × List Float × List ℕ). z .0) e))
-
 -- a header that ends among the first n bytes, and before the end of all
 pub header-alone : (bytes other : List ℕ) (n widest highest : ℕ) (head : Head) → Alike n bytes other → headerOf bytes widest highest ≡ done head → Near 1 (length bytes) n (head .taken)
     → headerOf other widest highest ≡ done head
@@ -122,45 +115,21 @@ header-alone bytes other n widest highest head alike e near =
     let again : take n bytes ++ drop n other ≡ other = rw (← alike .2) (take-append-drop n other) in
     ap (λ (l : List ℕ). headerOf l widest highest) (sym again) ∙ header-rest (take n bytes) (drop n bytes) (drop n other) widest highest inside ∙ rw parted e
 
-module _ (rowRule : RowRule) (rule : SampleRule) (alone : Alone 1 rowRule) (past : NonePast 1 rowRule) (bytes other : List ℕ) (widest highest : ℕ) (out out′ : List Float) (store store′ : List ℕ)
-    (head : Head) (before : head .taken < length bytes) (alike : Alike (head .taken) bytes other) where
-  -- the rows that give such an answer rest on the bytes taken
-  rests : (h : Head) (a : Left) → framed h a ≡ (done head, out′, store′) → Firm (length bytes) (head .taken) (a .0)
-  rests h a e = by (a .0) (ap (λ (z : Answer Head × List Float × List ℕ). z .0) e)
-    where
-      by : (z : Answer ℕ) → answerOf h z ≡ done head → Firm (length bytes) (head .taken) z
-      by (done p) k = let f : p ≡ head .taken = ap taken-of k in (omega arith, omega (arith, before))
-        where
-          taken-of : Answer Head → ℕ
-          taken-of (done x) = x .taken
-          taken-of (refused n q) = 0
-      by (refused n q) k = absurd (differ head n q (sym k))
-
-  frame-same : (h : Head) → frameAnswer rowRule rule bytes h out store ≡ (done head, out′, store′)
-      → (frameAnswer rowRule rule other h out store ≡ (done head, out′, store′)) × Near 1 (length bytes) (head .taken) (h .taken)
-  unfolding frameAnswer
-  frame-same h e =
-      let all = rowsOf rowRule rule bytes (storedOf h) (h .taken) out (cleared (storedOf h .long) store) in
-      let through = passed-by (λ n. (refuse n, out, store)) (frameChecks h out store) (framed h all) (done head, out′, store′) (λ n k. other-than n 0 out out′ store store′ head k) e in
-      let firm = rests h all (through .1) in
-      let far = rows-of-past rowRule rule past bytes (head .taken) (storedOf h) (h .taken) out (cleared (storedOf h .long) store) in (
-        rw (rows-alone rowRule rule alone past bytes other (head .taken) alike (storedOf h) (h .taken) out (cleared (storedOf h .long) store) firm) e,
-        near-or 1 (length bytes) (head .taken) (h .taken) (λ near. near) (λ no. absurd (far no firm)),
-      )
-
-  by-header : (a : Answer Head) → headerOf bytes widest highest ≡ a → readBy rowRule rule bytes widest highest out store ≡ (done head, out′, store′)
-      → readBy rowRule rule other widest highest out store ≡ (done head, out′, store′)
-  by-header (refused n p) eh e =
-      absurd (other-than n p out out′ store store′ head (read-refused rowRule rule bytes widest highest out store (Refused (record { number = n; place = p })) (sym eh) (record { number = n; place = p }) refl ∙ e))
-  by-header (done h) eh e =
-      let this = read-frame rowRule rule bytes widest highest out store (Read h) (sym eh) h _ refl refl in
-      let same = frame-same h (this ∙ e) in
-      let there = header-alone bytes other (head .taken) widest highest h alike eh (same .1) in
-      sym (read-frame rowRule rule other widest highest out store (Read h) (sym there) h _ refl refl) ∙ same .0
-
 pub taken-alone-by : (rowRule : RowRule) (rule : SampleRule) → Alone 1 rowRule → NonePast 1 rowRule → TakenAlone rowRule rule
 taken-alone-by rowRule rule alone past bytes other widest highest out out′ store store′ head e before alike =
-    by-header rowRule rule alone past bytes other widest highest out out′ store store′ head before alike (headerOf bytes widest highest) refl e
+    let f = file-read rowRule rule bytes widest highest out store head out′ store′ e in
+    let h = f .own in
+    let n : ℕ = head .taken in
+    let cleared = cleared (storedOf h .long) store in
+    let firm : Firm (length bytes) n (rowsBy rowRule rule bytes widest highest out store h .0) = subst (λ (z : Left). Firm (length bytes) n (z .0)) (sym (f .rows)) (omega arith, omega (arith, before)) in
+    let near = near-or 1 (length bytes) n (h .taken) (λ near. near) (λ far. absurd (rows-of-past rowRule rule past bytes n (storedOf h) (h .taken) out cleared far firm)) in
+    read-file rowRule rule other widest highest out store head out′ store′ (record {
+      own = h;
+      header = header-alone bytes other n widest highest h alike (f .header) near;
+      checks = f .checks;
+      rows = rows-alone rowRule rule alone past bytes other n alike (storedOf h) (h .taken) out cleared firm ∙ f .rows;
+      said = f .said;
+    })
 
 pub taken-alone : TakenAlone crateRow cratePixel
 taken-alone = taken-alone-by crateRow cratePixel crate-alone crate-past

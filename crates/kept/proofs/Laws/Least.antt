@@ -3,7 +3,7 @@ use Prim.Native.Nat.{ℕ, zero, suc, _+_, _-_, _*_, min, _<_, _≤_}
 use native.Mathlib.Nat.{mul-le-mul-right, suc-mul}
 use native.Mathlib.Numerals.{add-one}
 use native.Mathlib.Omega.{arith}
-use mathlib.Core.List.{List, _++_}
+use mathlib.Core.List.{List}
 use mathlib.Core.Bool.{Bool, true, false, _&&_, false≢true}
 use mathlib.Core.Path.{_≡_, refl, sym, ap, subst, _∙_}
 use borrow.Author.Tests.{le-leb, ltb-true, ltb-false}
@@ -11,14 +11,14 @@ use lib.Dec.{ltb, leb}
 use lib.ListN.{length, getD}
 use lib.Ieee.{Float}
 use Rattle.steps.specs.Loop.{Turn, lead, run}
-use Rattle.steps.specs.Answer.{Answer, done, refused, refuse}
+use Rattle.steps.specs.Answer.{Answer, done, refused}
 use Rattle.steps.proofs.Laws.Taken.{never-both}
 use Rattle.steps.specs.declared.Taken.{Taken}
 use Rattle.steps.specs.declared.Taken.the-variants.{Done, Fault}
 use Rattle.steps.proofs.Laws.Turns.{and-left, by-test, Leads, run-keeps}
-use Rattle.steps.proofs.Laws.Answer.{differ, passed, passed-by}
+use Rattle.steps.proofs.Laws.Answer.{differ}
 use Rattle.header.specs.declared.Head.{Head}
-use Rattle.header.specs.Head.{headChecks, headerOf, headOf, fieldsOf, taking}
+use Rattle.header.specs.Head.{headerOf}
 use Rattle.header.proofs.Laws.Head.{header-within}
 use Rattle.channels_read.specs.Channel.{Chan, channelOf, channelOut, channelTurn, crateCount, isRun, spanOf, spanTaken}
 use Rattle.channels_read.specs.Channels.{Chans, channelsOf, chansOut, chansTurn}
@@ -33,9 +33,10 @@ use Rattle.rows_read.proofs.Laws.Row.{kind-cases, not-flat}
 use Rattle.rows_read.proofs.Laws.Bounds.{crate-sound}
 use Rattle.reader.specs.Samples.{SampleRule}
 use Rattle.reader.specs.Frame.{Stored, storedOf, cleared, stepOf, Rows, Left, rowTurn, noRows, rowsOf}
-use Rattle.reader.specs.Read.{answerOf, framed, frameChecks, readBy}
+use Rattle.reader.specs.Read.{readBy}
 use Rattle.reader.proofs.Laws.Frame.{rows-cases, went-on}
 use Rattle.kept.specs.Least.{leastOf}
+use Rattle.kept.proofs.Laws.Done.{file-read}
 
 -- ---- An answer that is no fault is not before a place
 
@@ -316,22 +317,11 @@ module _ (rule : SampleRule) (bytes : List ℕ) (stored : Stored) (at : ℕ) (in
 -- a file that is read, by any rule for a pixel: at least so many bytes are taken after its header, and all that are taken are there
 pub least-read : (rule : SampleRule) (bytes : List ℕ) (widest highest : ℕ) (out : List Float) (store : List ℕ) (head a : Head) → headerOf bytes widest highest ≡ done head
     → readBy crateRow rule bytes widest highest out store .0 ≡ done a → (head .taken + leastOf (head .width) (head .height) ≤ a .taken) × (a .taken ≤ length bytes)
-unfolding readBy headerOf
 least-read rule bytes widest highest out store head a e f =
-    let is = passed (headChecks bytes widest highest) (headOf (fieldsOf bytes)) head e .1 in
-    let h = headOf (fieldsOf bytes) in
-    let left = rowsOf crateRow rule bytes (storedOf h) (h .taken) out (cleared (storedOf h .long) store) in
     let answer = readBy crateRow rule bytes widest highest out store in
-    let both = passed-by (λ n. (refuse n, out, store)) (headChecks bytes widest highest ++ frameChecks h out store) (framed h left) (done a, answer .1, answer .2)
-    (λ n k. differ a n 0 (sym (ap (λ (z : Answer Head × List Float × List ℕ). z .0) k)))
-    (ap (λ (z : Answer Head). (z, answer .1, answer .2)) f) in
-    subst (λ (x : Head). (x .taken + leastOf (x .width) (x .height) ≤ a .taken) × (a .taken ≤ length bytes)) is
-    (ended h left (rows-took rule bytes (storedOf h) (h .taken) (rw is (header-within bytes widest highest head e)) out (cleared (storedOf h .long) store)) (ap (λ (z : Answer Head × List Float × List ℕ). z .0) (both .1)))
-  where
-    ended : (h : Head) (left : Left) → Ends bytes (h .taken + leastOf (h .width) (h .height)) left → answerOf h (left .0) ≡ done a
-        → (h .taken + leastOf (h .width) (h .height) ≤ a .taken) × (a .taken ≤ length bytes)
-    ended h left ends k = by (left .0) refl k
-      where
-        by : (z : Answer ℕ) → left .0 ≡ z → answerOf h z ≡ done a → (h .taken + leastOf (h .width) (h .height) ≤ a .taken) × (a .taken ≤ length bytes)
-        by (done next) l k = subst (λ (t : ℕ). (h .taken + leastOf (h .width) (h .height) ≤ t) × (t ≤ length bytes)) (let same : taking h next ≡ a = cc in ap (λ (x : Head). x .taken) same) (ends .upto next l)
-        by (refused number row) l k = absurd (differ a number row (sym k))
+    let r = file-read crateRow rule bytes widest highest out store a (answer .1) (answer .2) (ap (λ (z : Answer Head). (z, answer .1, answer .2)) f) in
+    let h = r .own in
+    let both : _≡_ {A = Answer Head} (done h) (done head) = sym (r .header) ∙ e in
+    let is : h ≡ head = cc in
+    let took = rows-took rule bytes (storedOf h) (h .taken) (header-within bytes widest highest h (r .header)) out (cleared (storedOf h .long) store) in
+    subst (λ (x : Head). (x .taken + leastOf (x .width) (x .height) ≤ a .taken) × (a .taken ≤ length bytes)) is (took .upto (a .taken) (ap (λ (z : Left). z .0) (r .rows)))

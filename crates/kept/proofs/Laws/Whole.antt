@@ -9,13 +9,10 @@ use lib.Ieee.{Float}
 use lib.ListN.{length}
 use Rattle.steps.proofs.Laws.Order.{by-order}
 use Rattle.steps.specs.Loop.{Turn, more, halt, run, lead}
-use Rattle.steps.specs.Answer.{Answer, done, refused, refuse}
-use Rattle.steps.proofs.Laws.Answer.{differ, passed-by}
+use Rattle.steps.specs.Answer.{done}
 use Rattle.steps.specs.declared.Taken.{Taken}
 use Rattle.steps.specs.declared.Taken.the-variants.{Done, Fault}
 use Rattle.header.specs.declared.Head.{Head}
-use Rattle.header.specs.declared.HeadAnswer.the-variants.{Read, Refused}
-use Rattle.header.specs.Head.{headerOf, taking}
 use Rattle.header.proofs.Laws.Head.{header-within}
 use Rattle.rows_read.specs.Row.{crateRow}
 use Rattle.rows_read.specs.Middle.{Alike}
@@ -25,17 +22,12 @@ use Rattle.rows_read.proofs.Laws.Bounds.{crate-sound}
 use Rattle.rows_read.proofs.Laws.Cut.{cut-row}
 use Rattle.rows_read.proofs.Laws.Whole.{row-or-cut}
 use Rattle.reader.specs.Frame.{Stored, storedOf, cleared, stepOf, Rows, rows, Left, rowTurn, noRows, rowsOf}
-use Rattle.reader.specs.Read.{frameChecks, framed, readBy, cratePixel}
-use Rattle.reader.specs.Inner.{frameAnswer}
+use Rattle.reader.specs.Read.{cratePixel}
 use Rattle.reader.proofs.Laws.Frame.{went-on, rows-cases}
-use Rattle.reader.proofs.Laws.Read.{read-frame, read-refused}
-use Rattle.kept.specs.Cut.{AfterRows, CutFile, WholeOrCut}
+use Rattle.kept.specs.Cut.{AfterRows, WholeOrCut}
+use Rattle.kept.proofs.Laws.Done.{refused-done, file-read, read-file}
 use Rattle.kept.proofs.Laws.Least.{row-some}
 use Rattle.kept.proofs.Laws.Alone.{header-alone}
-
--- a refusal is not what was done
-refused-done : {X : Type 0} (number row p : ℕ) (o o′ : List Float) (s s′ : List ℕ) → _≡_ {A = Left} (refused number row, o, s) (done p, o′, s′) → X
-refused-done number row p o o′ s s′ e = absurd (differ p number row (sym (ap (λ (z : Left). z .0) e)))
 
 abbrev nextOf : Taken → ℕ
 nextOf (Done next) = next
@@ -105,65 +97,39 @@ module _ (bytes : List ℕ) (stored : Stored) (some : 0 < stored .long) where
 
 -- ---- The whole file
 
-module _ (bytes : List ℕ) (widest highest : ℕ) (out out′ : List Float) (store store′ : List ℕ) (head : Head) (high : 0 < head .height) where
-  abbrev Or : Type 0
-  Or = ((c : CutFile bytes widest highest out store) × Short bytes (c .head .width) (c .cut .end)) ⊎ ((rest : List ℕ) → readBy crateRow cratePixel (bytes ++ rest) widest highest out store ≡ (done head, out′, store′))
-
-  -- the rows of a file that is read are done
-  framed-done : (h : Head) (a : Left) → framed h a ≡ (done head, out′, store′) → (p : ℕ) × (a ≡ (done p, out′, store′)) × (taking h p ≡ head)
-  framed-done h (done p, o, s) e = (p, ap (λ (z : Answer Head × List Float × List ℕ). (done p, z .1, z .2)) e, ap headOf (ap (λ (z : Answer Head × List Float × List ℕ). z .0) e))
-    where
-      headOf : Answer Head → Head
-      headOf (done x) = x
-      headOf (refused n q) = h
-  framed-done h (refused n q, o, s) e = absurd (differ head n q (sym (ap (λ (z : Answer Head × List Float × List ℕ). z .0) e)))
-
-  -- they are the same with more bytes, and so is the header
-  same-file : (h : Head) → headerOf bytes widest highest ≡ done h → h .taken < length bytes → frameAnswer crateRow cratePixel bytes h out store ≡ (done head, out′, store′) → (rest : List ℕ)
-      → rowsOf crateRow cratePixel (bytes ++ rest) (storedOf h) (h .taken) out (cleared (storedOf h .long) store) ≡ rowsOf crateRow cratePixel bytes (storedOf h) (h .taken) out (cleared (storedOf h .long) store)
-      → readBy crateRow cratePixel (bytes ++ rest) widest highest out store ≡ (done head, out′, store′)
-  unfolding frameAnswer
-  same-file h eh l e rest same =
-      let there = header-alone bytes (bytes ++ rest) (length bytes) widest highest h (front-alike bytes rest) eh (omega arith, omega arith) in
-      sym (read-frame crateRow cratePixel (bytes ++ rest) widest highest out store (Read h) (sym there) h _ refl refl) ∙ rw same e
-
-  by-frame : (h : Head) → headerOf bytes widest highest ≡ done h → frameAnswer crateRow cratePixel bytes h out store ≡ (done head, out′, store′) → Or
-  unfolding frameAnswer rowsOf
-  by-frame h eh e =
-      let stored = storedOf h in
-      let all = rowsOf crateRow cratePixel bytes stored (h .taken) out (cleared (stored .long) store) in
-      let through = passed-by (λ n. (refuse n, out, store)) (frameChecks h out store) (framed h all) (done head, out′, store′)
-      (λ n k. differ head n 0 (sym (ap (λ (z : Answer Head × List Float × List ℕ). z .0) k))) e in
-      let left = framed-done h all (through .1) in
-      let count : h .height ≡ head .height = ap (λ (x : Head). x .height) (left .2) in
-      let wide : 0 < h .width = omega (arith, eqb-false (h .width) 0 (through .0 .1 .0)) in
-      let inside = header-within bytes widest highest h eh in
-      let x = rows (h .taken) 0 (cleared (stored .long) store) out in
-      let begun : h .taken < length bytes = by-order (h .taken) (length bytes) (λ l. l) (λ l. absurd (omega (arith, at-end bytes stored wide (stored .count + 1) x (left .0) out′ store′ inside (left .1) l))) in
-      ⊎-elim
-      (λ (n, y, after, last, c, short). inl (
-        record {
-          head = h;
-          header = eh;
-          room = ltb-false (length out) (h .height * (3 * h .width)) (through .0 .0);
-          some = wide;
-          row = ltb-false (length store) (4 * h .width) (through .0 .1 .1 .0);
-          count = n;
-          last = y;
-          before = after;
-          is-last = last;
-          cut = c;
-        },
-        short,
-      ))
-      (λ same. inr (λ rest. same-file h eh begun e rest (same rest ∙ sym (left .1))))
-      (rows-or bytes stored wide (stored .count + 1) x (left .0) out′ store′ inside (left .1))
-
-  by-header : (a : Answer Head) → headerOf bytes widest highest ≡ a → readBy crateRow cratePixel bytes widest highest out store ≡ (done head, out′, store′) → Or
-  by-header (refused n p) eh e =
-      absurd (differ head n p (sym (ap (λ (z : Answer Head × List Float × List ℕ). z .0)
-      (read-refused crateRow cratePixel bytes widest highest out store (Refused (record { number = n; place = p })) (sym eh) (record { number = n; place = p }) refl ∙ e))))
-  by-header (done h) eh e = by-frame h eh (read-frame crateRow cratePixel bytes widest highest out store (Read h) (sym eh) h _ refl refl ∙ e)
-
 pub whole-or-cut : WholeOrCut
-whole-or-cut bytes widest highest out out′ store store′ head e high = by-header bytes widest highest out out′ store store′ head high (headerOf bytes widest highest) refl e
+unfolding rowsOf
+whole-or-cut bytes widest highest out out′ store store′ head e high =
+    let f = file-read crateRow cratePixel bytes widest highest out store head out′ store′ e in
+    let h = f .own in
+    let stored = storedOf h in
+    let count : h .height ≡ head .height = ap (λ (x : Head). x .height) (f .said) in
+    let wide : 0 < h .width = omega (arith, eqb-false (h .width) 0 (f .checks .1 .0)) in
+    let inside = header-within bytes widest highest h (f .header) in
+    let x = rows (h .taken) 0 (cleared (stored .long) store) out in
+    let begun : h .taken < length bytes = by-order (h .taken) (length bytes) (λ l. l) (λ l. absurd (omega (arith, at-end bytes stored wide (stored .count + 1) x (head .taken) out′ store′ inside (f .rows) l))) in
+    ⊎-elim
+    (λ (n, y, after, last, c, short). inl (
+      record {
+        head = h;
+        header = f .header;
+        room = ltb-false (length out) (h .height * (3 * h .width)) (f .checks .0);
+        some = wide;
+        row = ltb-false (length store) (4 * h .width) (f .checks .1 .1 .0);
+        count = n;
+        last = y;
+        before = after;
+        is-last = last;
+        cut = c;
+      },
+      short,
+    ))
+    (λ same. inr (λ rest.
+    read-file crateRow cratePixel (bytes ++ rest) widest highest out store head out′ store′ (record {
+      own = h;
+      header = header-alone bytes (bytes ++ rest) (length bytes) widest highest h (front-alike bytes rest) (f .header) (omega arith, omega arith);
+      checks = f .checks;
+      rows = same rest;
+      said = f .said;
+    })))
+    (rows-or bytes stored wide (stored .count + 1) x (head .taken) out′ store′ inside (f .rows))
