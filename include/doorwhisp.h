@@ -20,7 +20,8 @@
  *
  * No call keeps a pointer, has state, asks for memory, fails in another way than by its number, or never ends; any
  * thread may call at any time. doorwhisp_length and doorwhisp_write use 131,072 bytes of stack and a little more,
- * the others less than 4,096.
+ * the others less than 4,096. The calls under "Reading", and doorwhisp_pixel_from_bytes, have no float divide and no
+ * square root (tools/no-divide looks for them).
  *
  * SAMPLES are three floats to a pixel, row by row from the top, red, green, blue. A four-byte pixel is three
  * mantissas and the exponent byte.

@@ -5,6 +5,7 @@
 //!
 //! - No call keeps what it is lent, none has state, and threads need no lock.
 //! - Encoding samples uses 131,072 bytes of stack and a little more.
+//! - What the archive does to decode has no float divide and no square root.
 //! - What fails is an [`HdrError`], with the number of the refusal and, where there is one, its row or pixel.
 //!
 //! # What is read
