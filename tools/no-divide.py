@@ -32,7 +32,7 @@ class Code:
 
     def __init__(self):
         self.named, self.divides = {}, {}
-        self.calls = {}  # of the face, each with its piece
+        self.calls = {}  # the face's functions, each with its piece
         self.unseen = set()  # pieces with functions of which no instruction was seen
 
     def piece(self, name):
@@ -40,9 +40,9 @@ class Code:
         self.divides.setdefault(name, [])
         return name
 
-    def ways(self):
-        """Of each piece that a reading call reaches the pieces on the way to it."""
-        starts = [self.calls[name] for name in sorted(set(self.calls) - WRITING)]
+    def ways(self, calls):
+        """Of each piece that one of the calls reaches the pieces on the way to it."""
+        starts = [self.calls[name] for name in calls]
         ways = {start: [start] for start in starts}
         todo = list(starts)
         for name in todo:
@@ -112,16 +112,16 @@ def crates(folder):
             code.named[name] = set(re.findall(r'\b(?:fnRef|foreign) "([^"]+)"', part))
             code.divides[name] = [(name, word) for word in found]
             if name.startswith("doorwhisp::"):
-                code.calls[name.partition("::")[2]] = name
+                code.calls[name.rpartition("::")[2]] = name
     return code
 
 
 # ---- What is said of them
 
 
-def told(what, code):
+def told(what, code, reading):
     """Prints what is reached and what was found, and answers how much of that is reached."""
-    ways = code.ways()
+    ways = code.ways(reading)
     places = sorted({name.removeprefix(".text.").partition("::")[0] for name in ways})
     print(f"{what}: the reading calls reach {len(set(ways) & set(code.named))} of {len(code.named)}, in {' '.join(places)}")
     bad = [(name, f"{name}, which is not there") for name in sorted(set(ways) - set(code.named) - OUTSIDE)]
@@ -132,14 +132,14 @@ def told(what, code):
 
 
 def main(folder):
-    looks = {"sections of the archive": archive(folder), "functions of the crates": crates(folder)}
-    known, others = (set(code.calls) for code in looks.values())
-    strange = known ^ others | WRITING - known | set().union(*(code.unseen for code in looks.values()))
-    if strange or known == WRITING:
-        print(f"no-divide: not among the calls, or without code: {' '.join(sorted(strange)) or 'a reading call'}")
+    built, written = archive(folder), crates(folder)
+    reading = sorted(set(built.calls) - WRITING)
+    strange = built.unseen | WRITING - set(built.calls) | set(built.calls) - set(written.calls)
+    if strange or not reading:
+        print(f"no-divide: without code, or no calls: {' '.join(sorted(strange) or ['what reads'])}")
         return 2
-    reached = sum(told(what, code) for what, code in looks.items())
-    print(f"no-divide: {reached} reached from a reading call")
+    reached = told("sections of the archive", built, reading) + told("functions of the crates", written, reading)
+    print(f"no-divide: {reached} float divides or square roots are reached from a reading call")
     return 1 if reached else 0
 
 
