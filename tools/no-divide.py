@@ -119,9 +119,8 @@ def crates(folder):
 # ---- What is said of them
 
 
-def told(what, code, reading):
+def told(what, code, ways):
     """Prints what is reached and what was found, and answers how much of that is reached."""
-    ways = code.ways(reading)
     places = sorted({name.removeprefix(".text.").partition("::")[0] for name in ways})
     print(f"{what}: the reading calls reach {len(set(ways) & set(code.named))} of {len(code.named)}, in {' '.join(places)}")
     bad = [(name, f"{name}, which is not there") for name in sorted(set(ways) - set(code.named) - OUTSIDE)]
@@ -138,7 +137,12 @@ def main(folder):
     if strange or not reading:
         print(f"no-divide: without code, or no calls: {' '.join(sorted(strange) or ['what reads'])}")
         return 2
-    reached = told("sections of the archive", built, reading) + told("functions of the crates", written, reading)
+    here, there = built.ways(reading), written.ways(reading)
+    lost = {name.removeprefix(".text.") for name in here} & set(written.named) - set(there)
+    if lost or len(there) == len(reading):
+        print(f"no-divide: what the crates' functions name is not understood: {' '.join(sorted(lost))}")
+        return 2
+    reached = told("sections of the archive", built, here) + told("functions of the crates", written, there)
     print(f"no-divide: {reached} float divides or square roots are reached from a reading call")
     return 1 if reached else 0
 
