@@ -66,9 +66,9 @@ coded digits p = record { r = byteOf digits (mag (p .r)); g = byteOf digits (mag
 unfoldable pub tooBright : Pixel → Bool
 tooBright p = leb (2 ^ 276) (peak p)
 
--- The bytes of a pixel. One that is too bright has none by the paper, and counts as black here so that every pixel has some.
+-- The bytes of a pixel. Of one that is too bright the last would be over 255: the paper has none for it.
 unfoldable pub bytesOf : Pixel → Rgbe
-bytesOf p = pick (leb (peak p) dark) black (pick (tooBright p) black (coded (size (peak p)) p))
+bytesOf p = pick (leb (peak p) dark) black (coded (size (peak p)) p)
 
 -- the bytes, or that the pixel is too bright
 unfoldable pub packedOf : Pixel → Packed

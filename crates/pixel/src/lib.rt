@@ -1,8 +1,8 @@
 // Four bytes to three samples and back.
 ghost use mathlib.Core.Path.{_≡_};
-ghost use mathlib.Core.Bool.{_&&_};
+ghost use mathlib.Core.Bool.{false};
 ghost use Prim.Native.Nat.{_+_, _/_, _^_, _<_, _≤_, max};
-ghost use lib.Dec.{T, ltb};
+ghost use lib.Dec.{T};
 ghost use lib.Ieee.{size};
 ghost use lib.ListN.{length};
 ghost use Rattle.pixel.specs.Units.{ofUnits, mag};
@@ -99,7 +99,7 @@ fn parts_of(w: u32) -> Rgbe
         r: (w % 256) as u8,
         g: (w / 256 % 256) as u8,
         b: (w / 65536 % 256) as u8,
-        e: (w / 16777216 % 256) as u8,
+        e: (w / 16777216) as u8,
     }
 }
 
@@ -152,14 +152,6 @@ pub fn is_near(x: f32) -> bool
     NEAR < x
 }
 
-// Whether v is above the f32 nearest to 1e-32 and below 2^127.
-fn is_coded(v: f32) -> bool
-    requires { ⌜ T (bright v) ⌝ }
-    ensures { λ r. ⌜ r ≡ ltb dark (mag v) && ltb (mag v) (2 ^ 276) ⌝ }
-{
-    DARK < v && v < TOO_BRIGHT
-}
-
 // e + 149, where 2^(e-1) <= v < 2^e: from the exponent field of the bits.
 fn digits_of(v: f32) -> u32
     requires { ⌜ T (bright v) ⌝ ∗ ⌜ dark < mag v ⌝ ∗ ⌜ mag v < 2 ^ 276 ⌝ }
@@ -188,10 +180,11 @@ fn byte_of(x: f32, digits: u32) -> u32
 
 // A pixel's four bytes as one word, the first lowest: four bytes of one word are stored at once.
 fn word_of(p: Pixel) -> u32
+    requires { ⌜ tooBright p ≡ false ⌝ }
     ensures { λ w. ⌜ AsWord (bytesOf p) w ⌝ }
 {
     let v = largest(p);
-    if is_coded(v) {
+    if DARK < v {
         let digits = digits_of(v);
         let r = byte_of(p.r, digits);
         let g = byte_of(p.g, digits);
@@ -202,8 +195,9 @@ fn word_of(p: Pixel) -> u32
     }
 }
 
-// Three samples to four bytes, by the documents; a pixel that is too bright gives zeros.
+// Three samples that are not too bright to four bytes, by the documents.
 pub fn pack(p: Pixel) -> Rgbe
+    requires { ⌜ tooBright p ≡ false ⌝ }
     ensures { λ r. ⌜ r ≡ bytesOf p ⌝ }
 {
     parts_of(word_of(p))

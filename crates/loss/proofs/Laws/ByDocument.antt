@@ -48,7 +48,7 @@ kept-by-document p l h n lies =
     let high : N ≤ 276 = size-le (peak p) 276 h in
     let under : (n : ℕ) → n ≤ peak p → n < 2 ^ N = λ n w. lt-of-le-of-lt w (size-lt (peak p)) in
     subst (λ (d : ℕ). KeptAll (step d) p (pixelOf docUnits (bytesOf p))) (lies-size p n lies)
-    (subst (λ (q : Rgbe). KeptAll (2 ^ (N - 8)) p (pixelOf docUnits q)) (sym (coded-bytes p l h))
+    (subst (λ (q : Rgbe). KeptAll (2 ^ (N - 8)) p (pixelOf docUnits q)) (sym (coded-bytes p l))
     (record {
       r = sample-kept (p .r) N low high (under _ (r-peak p));
       g = sample-kept (p .g) N low high (under _ (g-peak p));

@@ -13,7 +13,7 @@ use Rattle.steps.proofs.Laws.Order.{lt-or-ge}
 use Rattle.pixel.specs.declared.Pixel.{Pixel}
 use Rattle.pixel.specs.declared.Rgbe.{Rgbe}
 use Rattle.pixel.specs.Units.{mag}
-use Rattle.pixel.specs.Rgbe.{peak, dark, black, tooBright, bytesOf}
+use Rattle.pixel.specs.Rgbe.{peak, dark, black, bytesOf}
 use Rattle.loss.specs.Dark.{lastBlack, firstLight, grey}
 use Rattle.pixel.proofs.Laws.Numbers.{mul-pow-pow}
 use Rattle.pixel.proofs.Laws.Samples.{shape, own-mag}
@@ -75,7 +75,7 @@ unfolding ofBits mag peak bytesOf
 last-is-black = refl
 
 pub first-is-light : bytesOf (grey firstLight) ≡ record { r = 207; g = 207; b = 207; e = 22 }
-unfolding ofBits size mag peak tooBright bytesOf
+unfolding ofBits size mag peak bytesOf
 first-is-light = refl
 
 -- a pixel that is not too bright is black just where its largest sample is not above the one
@@ -85,10 +85,10 @@ black-up-to p h = black-bytes p (subst (λ (n : ℕ). peak p ≤ n) last-mag h)
 not-nothing : (n : ℕ) → 43 ≤ n → n - 21 ≡ 0 → ⊥
 not-nothing n h e = omega arith
 
-pub light-above : (p : Pixel) → mag lastBlack < peak p → peak p < 2 ^ 276 → bytesOf p ≡ black → ⊥
-light-above p l h e =
+pub light-above : (p : Pixel) → mag lastBlack < peak p → bytesOf p ≡ black → ⊥
+light-above p l e =
     let above : dark < peak p = subst (λ (n : ℕ). n < peak p) last-mag l in
-    not-nothing (size (peak p)) (size-low (peak p) above) (ap (λ (q : Rgbe). q .e) (sym (coded-bytes p above h) ∙ e))
+    not-nothing (size (peak p)) (size-low (peak p) above) (ap (λ (q : Rgbe). q .e) (sym (coded-bytes p above) ∙ e))
 
 -- so no pixel of f32s that is not black is darker than the other
 pub darkest-light : (p : Pixel) → T (fits binary32 (p .r)) → T (fits binary32 (p .g)) → T (fits binary32 (p .b)) → (bytesOf p ≡ black → ⊥) → mag firstLight ≤ peak p

@@ -88,7 +88,7 @@ light-kept p l h =
     let low : 118 ≤ N = size-gt (peak p) 117 l in
     let high : N ≤ 180 = size-le (peak p) 180 h in
     let under : (n : ℕ) → n ≤ peak p → n < 2 ^ N = λ n w. lt-of-le-of-lt w (size-lt (peak p)) in
-    subst (λ (q : Rgbe). KeptAll (2 ^ (N - 8)) p (pixelOf crateUnits q)) (sym (coded-bytes p (lt-of-lt-of-le (lit< {m = dark} {n = 2 ^ 117} tt) l) (lt-of-lt-of-le h (lit≤ {m = 2 ^ 180} {n = 2 ^ 276} tt))))
+    subst (λ (q : Rgbe). KeptAll (2 ^ (N - 8)) p (pixelOf crateUnits q)) (sym (coded-bytes p (lt-of-lt-of-le (lit< {m = dark} {n = 2 ^ 117} tt) l)))
     (record {
       r = kept (p .r) N low high (under _ (r-peak p));
       g = kept (p .g) N low high (under _ (g-peak p));

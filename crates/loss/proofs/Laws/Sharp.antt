@@ -7,7 +7,7 @@ use lib.Ieee.{Float, fin, round, size}
 use Rattle.pixel.specs.declared.Pixel.{Pixel}
 use Rattle.pixel.specs.declared.Rgbe.{Rgbe}
 use Rattle.pixel.specs.Units.{ofUnits, mag}
-use Rattle.pixel.specs.Rgbe.{crateShift, crateScale, crateUnits, pixelOf, peak, tooBright, bytesOf}
+use Rattle.pixel.specs.Rgbe.{crateShift, crateScale, crateUnits, pixelOf, peak, bytesOf}
 
 abbrev zero : Float
 zero = fin false 0 (pos 0)
@@ -25,29 +25,29 @@ back p = pixelOf crateUnits (bytesOf p)
 
 -- the largest f32 below 2^127 has the last byte 255
 pub most-last : bytesOf (red (fin false (2 ^ 24 - 1) (pos 103))) ≡ bytes 255 255
-unfolding size mag peak tooBright bytesOf
+unfolding size mag peak bytesOf
 most-last = refl
 
 -- 1 is written with no byte above 128
 pub least-byte : bytesOf (red (fin false 1 (pos 0))) ≡ bytes 128 129
-unfolding size mag peak tooBright bytesOf
+unfolding size mag peak bytesOf
 least-byte = refl
 
 -- the f32 next below 2^-32 comes back as 255/256
 pub next-dark : back (red (fin false (2 ^ 24 - 1) (negsuc 55))) ≡ red (fin false 255 (negsuc 7))
-unfolding round size ofUnits mag crateShift crateScale crateUnits peak tooBright bytesOf
+unfolding round size ofUnits mag crateShift crateScale crateUnits peak bytesOf
 next-dark = refl
 
 -- 2^-33 and 2^31 come back as 1/2
 pub too-dark : back (red (fin false 1 (negsuc 32))) ≡ red (fin false 1 (negsuc 0))
-unfolding round size ofUnits mag crateShift crateScale crateUnits peak tooBright bytesOf
+unfolding round size ofUnits mag crateShift crateScale crateUnits peak bytesOf
 too-dark = refl
 
 pub too-bright : back (red (fin false 1 (pos 31))) ≡ red (fin false 1 (negsuc 0))
-unfolding round size ofUnits mag crateShift crateScale crateUnits peak tooBright bytesOf
+unfolding round size ofUnits mag crateShift crateScale crateUnits peak bytesOf
 too-bright = refl
 
 -- beside 1, where a step is 2^-7, the f32 next below 2^-7 comes back as 0
 pub most-lost : back (record { r = fin false 1 (pos 0); g = fin false (2 ^ 24 - 1) (negsuc 30); b = zero }) ≡ red (fin false 1 (pos 0))
-unfolding round size ofUnits mag crateShift crateScale crateUnits peak tooBright bytesOf
+unfolding round size ofUnits mag crateShift crateScale crateUnits peak bytesOf
 most-lost = refl

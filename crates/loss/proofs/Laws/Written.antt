@@ -1,19 +1,61 @@
--- RULES 5.1: a pixel is written black, or one of its three bytes is at least 128 and the last from 22 to 255.
-use mathlib.Core.Path.{_≡_, sym, subst}
+-- The four bytes of a pixel that passed check 12: none is over 255; black, or one is at least 128 and the last from 22 to 255; and not 1,1,1. Over any three samples.
+use mathlib.Core.Bool.{false}
+use mathlib.Core.Path.{_≡_, sym, ap, _∙_, subst}
 use mathlib.Core.Logic.{⊎-elim, inl, inr}
 use Prim.Native.Nat.{ℕ, _+_, _-_, _^_, _≤_, _<_}
-use native.Mathlib.Nat.{le-trans, le-div-iff-mul-le}
+use native.Mathlib.Nat.{le-trans, lt-of-le-of-lt, le-div-iff-mul-le}
 use native.Mathlib.Omega.{arith}
-use lib.Dec.{lit≤}
+use borrow.Author.Tests.{le-leb, lt-leb, lt-ltb, le-ltb, ltb-false}
+use lib.Dec.{ltb, lit<, lit≤}
 use lib.Pow.{pow-pos, pow-add}
 use lib.Ieee.{size}
-use lib.Ieee.Digits.{size-le, size-reaches}
+use lib.Ieee.Digits.{size-lt, size-le, size-reaches}
 use Rattle.steps.proofs.Laws.Order.{lt-or-ge}
 use Rattle.pixel.specs.declared.Pixel.{Pixel}
-use Rattle.pixel.specs.Rgbe.{peak, dark, byteOf, coded, bytesOf}
-use Rattle.loss.specs.Written.{Written}
-use Rattle.pixel.proofs.Laws.Digits.{size-low}
-use Rattle.pixel.proofs.Laws.Bytes.{peak-is, coded-bytes, black-bytes, bright-bytes, by-step}
+use Rattle.pixel.specs.declared.Rgbe.{Rgbe}
+use Rattle.pixel.specs.Rgbe.{peak, dark, byteOf, coded, tooBright, bytesOf}
+use Rattle.loss.specs.Written.{Fits, Written, Ones}
+use Rattle.pixel.proofs.Laws.Digits.{size-gt, size-low}
+use Rattle.pixel.proofs.Laws.Bytes.{r-peak, g-peak, b-peak, peak-is, peak-below, coded-bytes, black-bytes, by-step, byte-lt}
+
+-- ---- The last byte
+
+pub last-byte : (p : Pixel) → dark < peak p → bytesOf p .e ≡ size (peak p) - 21
+last-byte p l = ap (λ (q : Rgbe). q .e) (coded-bytes p l)
+
+-- check 12 is that it would be over 255
+pub bright-is-over : (p : Pixel) → tooBright p ≡ ltb 255 (bytesOf p .e)
+unfolding tooBright
+bright-is-over p =
+    ⊎-elim
+    (λ l. ⊎-elim
+    (λ h. lt-leb (2 ^ 276) (peak p) h ∙ sym (le-ltb 255 (bytesOf p .e) (omega (arith, last-byte p l, size-le (peak p) 276 h))))
+    (λ h. le-leb (2 ^ 276) (peak p) h ∙ sym (lt-ltb 255 (bytesOf p .e) (omega (arith, last-byte p l, size-gt (peak p) 276 h))))
+    (lt-or-ge (peak p) (2 ^ 276)))
+    (λ l. lt-leb (2 ^ 276) (peak p) (lt-of-le-of-lt l (lit< tt)) ∙ sym (le-ltb 255 (bytesOf p .e) (omega (arith, ap (λ (q : Rgbe). q .e) (black-bytes p l)))))
+    (lt-or-ge dark (peak p))
+
+-- ---- No byte is over 255
+
+coded-byte : (p : Pixel) (n : ℕ) → n ≤ peak p → byteOf (size (peak p)) n ≤ 255
+coded-byte p n h = omega (arith, byte-lt n (size (peak p)) (lt-of-le-of-lt h (size-lt (peak p))))
+
+pub written-fits : (p : Pixel) → tooBright p ≡ false → Fits (bytesOf p)
+written-fits p e =
+    ⊎-elim
+    (λ l. let is = sym (coded-bytes p l) in record {
+      r = subst (λ (q : Rgbe). q .r ≤ 255) is (coded-byte p _ (r-peak p));
+      g = subst (λ (q : Rgbe). q .g ≤ 255) is (coded-byte p _ (g-peak p));
+      b = subst (λ (q : Rgbe). q .b ≤ 255) is (coded-byte p _ (b-peak p));
+      e = last;
+    })
+    (λ l. subst Fits (sym (black-bytes p l)) (record { r = lit≤ tt; g = lit≤ tt; b = lit≤ tt; e = lit≤ tt }))
+    (lt-or-ge dark (peak p))
+  where
+    last : bytesOf p .e ≤ 255
+    last = ltb-false 255 (bytesOf p .e) (sym (bright-is-over p) ∙ e)
+
+-- ---- Black, or one of the three is at least 128
 
 -- the byte of the largest
 peak-byte : (n : ℕ) → 8 ≤ size n → 128 ≤ byteOf (size n) n
@@ -26,14 +68,26 @@ coded-written p N l h top =
     let high : (n : ℕ) → peak p ≡ n → 128 ≤ byteOf N n = λ n e. subst (λ (z : ℕ). 128 ≤ byteOf N z) e top in
     inr (⊎-elim (λ e. inl (high _ e)) (λ w. inr (⊎-elim (λ e. inl (high _ e)) (λ e. inr (high _ e)) w)) (peak-is p), (omega arith, omega arith))
 
-pub written-bytes : (p : Pixel) → Written (bytesOf p)
-written-bytes p =
-    ⊎-elim
-    (λ l. ⊎-elim (λ h. subst Written (sym (coded-bytes p l h)) (light l h)) (λ h. inl (bright-bytes p l h)) (lt-or-ge (peak p) (2 ^ 276)))
-    (λ l. inl (black-bytes p l))
-    (lt-or-ge dark (peak p))
+pub written-bytes : (p : Pixel) → tooBright p ≡ false → Written (bytesOf p)
+written-bytes p e = ⊎-elim (λ l. subst Written (sym (coded-bytes p l)) (light l)) (λ l. inl (black-bytes p l)) (lt-or-ge dark (peak p))
   where
-    light : dark < peak p → peak p < 2 ^ 276 → Written (coded (size (peak p)) p)
-    light l h =
+    light : dark < peak p → Written (coded (size (peak p)) p)
+    light l =
         let low = size-low (peak p) l in
-        coded-written p (size (peak p)) low (size-le (peak p) 276 h) (peak-byte (peak p) (le-trans (lit≤ {m = 8} {n = 43} tt) low))
+        coded-written p (size (peak p)) low (size-le (peak p) 276 (peak-below p e)) (peak-byte (peak p) (le-trans (lit≤ {m = 8} {n = 43} tt) low))
+
+-- ---- No pixel starts 1,1,1: black is 0,0,0, and of any other one byte is at least 128
+
+no-ones : (q : Rgbe) → Written q → Ones q → ⊥
+no-ones q w o =
+    ⊎-elim (λ e. none _ (o .r) (ap (λ (q : Rgbe). q .r) e))
+    (λ h. ⊎-elim (λ r. high _ r (o .r)) (λ w. ⊎-elim (λ g. high _ g (o .g)) (λ b. high _ b (o .b)) w) (h .0)) w
+  where
+    none : (x : ℕ) → x ≡ 1 → x ≡ 0 → ⊥
+    none x e f = omega arith
+
+    high : (x : ℕ) → 128 ≤ x → x ≡ 1 → ⊥
+    high x l e = omega arith
+
+pub written-no-ones : (p : Pixel) → tooBright p ≡ false → Ones (bytesOf p) → ⊥
+written-no-ones p e = no-ones (bytesOf p) (written-bytes p e)

@@ -9,7 +9,7 @@ use lib.Dec.{T, ltb, leb, lit<}
 use lib.Pow.{pow-pos}
 use lib.Ieee.{Float, size}
 use lib.Ieee.Nearest.{div-same}
-use borrow.Author.Tests.{le-leb, lt-leb, lt-ltb, le-ltb, ltb-true, ltb-false}
+use borrow.Author.Tests.{le-leb, lt-leb, lt-ltb, le-ltb, leb-false, ltb-false}
 use Rattle.steps.proofs.Laws.Order.{lt-or-ge}
 use Rattle.steps.specs.Loop.{pick}
 use Rattle.pixel.specs.declared.Pixel.{Pixel}
@@ -47,42 +47,22 @@ peak-is p =
 leb-ltb : (a b : ℕ) → leb a b ≡ not (ltb b a)
 leb-ltb a b = ⊎-elim (λ h. lt-leb a b h ∙ ap not (sym (lt-ltb b a h))) (λ h. le-leb a b h ∙ ap not (sym (le-ltb b a h))) (lt-or-ge b a)
 
-pub coded-bytes : (p : Pixel) → dark < peak p → peak p < 2 ^ 276 → bytesOf p ≡ coded (size (peak p)) p
-unfolding bytesOf tooBright
-coded-bytes p l h =
-    ap (λ (t : Bool). pick t black (pick (tooBright p) black (coded (size (peak p)) p))) (lt-leb (peak p) dark l)
-    ∙ ap (λ (t : Bool). pick t black (coded (size (peak p)) p)) (lt-leb (2 ^ 276) (peak p) h)
+pub coded-bytes : (p : Pixel) → dark < peak p → bytesOf p ≡ coded (size (peak p)) p
+unfolding bytesOf
+coded-bytes p l = ap (λ (t : Bool). pick t black (coded (size (peak p)) p)) (lt-leb (peak p) dark l)
 
 pub black-bytes : (p : Pixel) → peak p ≤ dark → bytesOf p ≡ black
 unfolding bytesOf
-black-bytes p h = ap (λ (t : Bool). pick t black (pick (tooBright p) black (coded (size (peak p)) p))) (le-leb (peak p) dark h)
+black-bytes p h = ap (λ (t : Bool). pick t black (coded (size (peak p)) p)) (le-leb (peak p) dark h)
 
-pub bright-bytes : (p : Pixel) → dark < peak p → 2 ^ 276 ≤ peak p → bytesOf p ≡ black
-unfolding bytesOf tooBright
-bright-bytes p l h =
-    ap (λ (t : Bool). pick t black (pick (tooBright p) black (coded (size (peak p)) p))) (lt-leb (peak p) dark l)
-    ∙ ap (λ (t : Bool). pick t black (coded (size (peak p)) p)) (le-leb (2 ^ 276) (peak p) h)
-
--- the cases as one test
-abbrev pub isCoded : ℕ → Bool
-isCoded v = ltb dark v && ltb v (2 ^ 276)
-
-pub bytes-by-test : (p : Pixel) → bytesOf p ≡ pick (isCoded (peak p)) (coded (size (peak p)) p) black
-unfolding bytesOf tooBright
-bytes-by-test p =
-    cases (leb (peak p) dark) (ltb dark (peak p)) (leb (2 ^ 276) (peak p)) (ltb (peak p) (2 ^ 276)) (leb-ltb (peak p) dark) (leb-ltb (2 ^ 276) (peak p))
-  where
-    cases : (a b c d : Bool) → a ≡ not b → c ≡ not d → pick a black (pick c black (coded (size (peak p)) p)) ≡ pick (b && d) (coded (size (peak p)) p) black
-    cases a b c d e f = ap (λ (t : Bool). pick t black (pick c black (coded (size (peak p)) p))) e ∙ ap (λ (t : Bool). pick (not b) black (pick t black (coded (size (peak p)) p))) f ∙ rest b d
-      where
-        rest : (b d : Bool) → pick (not b) black (pick (not d) black (coded (size (peak p)) p)) ≡ pick (b && d) (coded (size (peak p)) p) black
-        rest true true = refl
-        rest true false = refl
-        rest false d = refl
-
+-- check 12, and what it says where it passes
 pub bright-by-test : (p : Pixel) → tooBright p ≡ not (ltb (peak p) (2 ^ 276))
 unfolding tooBright
 bright-by-test p = leb-ltb (2 ^ 276) (peak p)
+
+pub peak-below : (p : Pixel) → tooBright p ≡ false → peak p < 2 ^ 276
+unfolding tooBright
+peak-below p e = leb-false (2 ^ 276) (peak p) e
 
 -- a pixel that has no sample near 2^127 is not too bright
 pub dim-pixel : (p : Pixel) → near (p .r) ≡ false → near (p .g) ≡ false → near (p .b) ≡ false → tooBright p ≡ false
@@ -90,15 +70,6 @@ unfolding near tooBright
 dim-pixel p r g b =
     let small : (x : Float) → ltb (2 ^ 275) (mag x) ≡ false → mag x < 2 ^ 276 = λ x e. lt-of-le-of-lt (ltb-false (2 ^ 275) (mag x) e) (lit< tt) in
     lt-leb (2 ^ 276) (peak p) (⊎-elim (λ e. subst (λ (n : ℕ). n < 2 ^ 276) (sym e) (small (p .r) r)) (λ o. ⊎-elim (λ e. subst (λ (n : ℕ). n < 2 ^ 276) (sym e) (small (p .g) g)) (λ e. subst (λ (n : ℕ). n < 2 ^ 276) (sym e) (small (p .b) b)) o) (peak-is p))
-
-pub coded-between : (v : ℕ) → isCoded v ≡ true → (dark < v) × (v < 2 ^ 276)
-coded-between v h =
-    let b = both (ltb dark v) (ltb v (2 ^ 276)) h in
-    (ltb-true dark v (b .0), ltb-true v (2 ^ 276) (b .1))
-  where
-    both : (t u : Bool) → (t && u) ≡ true → (t ≡ true) × (u ≡ true)
-    both true u h = (refl, h)
-    both false u h = (h, absurd (subst T (sym h) tt))
 
 -- ---- a byte is the quotient by the step
 pub by-step : (n N : ℕ) → 8 ≤ N → byteOf N n ≡ n / 2 ^ (N - 8)

@@ -13,11 +13,11 @@ cast-t6 c = search needs
 cast-t9 : tie.Need-cast-t9
 cast-t9 c = search needs
 
-cast-t12 : tie.Need-cast-t12
-cast-t12 c = search needs
+cast-t11 : tie.Need-cast-t11
+cast-t11 c = search needs
 
 returns : tie.Need-returns
 returns c = λ q a. word-parts (q .r) (q .g) (q .b) (q .e) _ (a .0) (a .1) (a .2) (a .3) (a .4)
 
 pub parts-of-spec : {M : Type 1} → statement M
-parts-of-spec = tie.close (tie.spec cast-t3 cast-t6 cast-t9 cast-t12 returns)
+parts-of-spec = tie.close (tie.spec cast-t3 cast-t6 cast-t9 cast-t11 returns)

@@ -12,7 +12,7 @@ is-too-bright-requires : tie.Need-is-too-bright-requires
 is-too-bright-requires c κs = search needs
 
 pack-requires : tie.Need-pack-requires
-pack-requires c κs = search needs
+pack-requires c κs = sym (c .before .is-too-bright .ensures) ∙ c .if1 .left
 
 returns : tie.Need-returns
 unfolding packedOf

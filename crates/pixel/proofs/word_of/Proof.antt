@@ -1,21 +1,21 @@
 -- `pixel::word_of` meets its contract: where the largest is coded, its count of binary digits keeps every byte in range.
 use mathlib.Core.Path.{_≡_, refl, sym, ap, _∙_, subst}
-use mathlib.Core.Bool.{Bool, true}
 use Prim.Native.Nat.{ℕ, _+_, _-_, _*_, _^_, _≤_, _<_}
 use native.Mathlib.Nat.{lt-of-le-of-lt}
 use native.Mathlib.Omega.{arith}
-use lib.Dec.{lit<}
-use lib.Ieee.{size}
+use lib.Dec.{ltb, lit<}
+use lib.Ieee.{binary32, ofBits, lt, size}
 use lib.Ieee.Digits.{size-lt, size-le}
+use denote.Floats.{passes}
 use borrow.Author.Needs.{needs}
-use Rattle.steps.specs.Loop.{pick}
+use borrow.Author.Tests.{ltb-true, ltb-false}
 use Rattle.pixel.specs.declared.Pixel.{Pixel}
 use Rattle.pixel.specs.declared.Rgbe.{Rgbe}
-use Rattle.pixel.specs.Units.{mag}
-use Rattle.pixel.specs.Rgbe.{peak, coded, black}
+use Rattle.pixel.specs.Rgbe.{peak, dark, coded}
 use Rattle.pixel.specs.Inner.{AsWord}
 use Rattle.pixel.proofs.Laws.Digits.{size-low}
-use Rattle.pixel.proofs.Laws.Bytes.{r-peak, g-peak, b-peak, isCoded, bytes-by-test, coded-between}
+use Rattle.pixel.proofs.Laws.Limits.{above-dark}
+use Rattle.pixel.proofs.Laws.Bytes.{r-peak, g-peak, b-peak, peak-below, coded-bytes, black-bytes}
 use Rattle.pixel.proofs.word_of.Statement.{statement}
 use Rattle.pixel.proofs.word_of.Tie as tie
 
@@ -26,35 +26,34 @@ record Known (p : Pixel) (digits : ℕ) : Type 0 where
   high : digits ≤ 276
   under : (n : ℕ) → n ≤ peak p → n < 2 ^ digits
 
-known : (p : Pixel) (d : ℕ) → d ≡ size (peak p) → isCoded (peak p) ≡ true → Known p d
-known p d is t =
-    let k = coded-between (peak p) t in record {
-      is = is;
-      low = subst (λ (z : ℕ). 43 ≤ z) (sym is) (size-low (peak p) (k .0));
-      high = subst (λ (z : ℕ). z ≤ 276) (sym is) (size-le (peak p) 276 (k .1));
-      under = λ n h. subst (λ (z : ℕ). n < 2 ^ z) (sym is) (lt-of-le-of-lt h (size-lt (peak p)));
-    }
+known : (p : Pixel) (d : ℕ) → d ≡ size (peak p) → dark < peak p → peak p < 2 ^ 276 → Known p d
+known p d is l h = record {
+  is = is;
+  low = subst (λ (z : ℕ). 43 ≤ z) (sym is) (size-low (peak p) l);
+  high = subst (λ (z : ℕ). z ≤ 276) (sym is) (size-le (peak p) 276 h);
+  under = λ n k. subst (λ (z : ℕ). n < 2 ^ z) (sym is) (lt-of-le-of-lt k (size-lt (peak p)));
+}
 
 -- the test of the code, of the largest
-tested : (c : tie.After-is-coded) → c .is-coded .result ≡ isCoded (peak (c .before .before .args .p))
-tested c = c .is-coded .ensures ∙ ap isCoded (c .before .largest .ensures .1)
+tested : (c : tie.After-largest) → lt (ofBits binary32 0x0a4f_b11f) (c .largest .result) ≡ ltb dark (peak (c .before .args .p))
+tested c = above-dark (c .largest .result) (passes _ (c .largest .ok)) ∙ ap (ltb dark) (c .largest .ensures .1)
 
-here : (c : tie.After-digits-of) → Known (c .before .before .before .before .args .p) (c .digits-of .result)
+above : (c : tie.Then1) → dark < peak (c .before .before .args .p)
+above c = ltb-true dark (peak (c .before .before .args .p)) (sym (tested (c .before)) ∙ c .if1 .taken)
+
+here : (c : tie.After-digits-of) → Known (c .before .before .before .args .p) (c .digits-of .result)
 here c =
-    let t = c .before .before in
-    known (t .before .before .args .p) (c .digits-of .result) (c .digits-of .ensures ∙ ap size (t .before .largest .ensures .1)) (sym (tested t) ∙ c .before .if1 .taken)
+    let l = c .before .before in
+    known (l .before .args .p) (c .digits-of .result) (c .digits-of .ensures ∙ ap size (l .largest .ensures .1)) (above (c .before)) (peak-below (l .before .args .p) (l .before .pre))
 
 largest-requires : tie.Need-largest-requires
 largest-requires c κs = search needs
 
-is-coded-requires : tie.Need-is-coded-requires
-is-coded-requires c κs = c .largest .ensures .0
-
 digits-of-requires : tie.Need-digits-of-requires
 digits-of-requires c κs =
-    let t = c .before in
-    let k = coded-between (mag (t .before .largest .result)) (sym (t .is-coded .ensures) ∙ c .if1 .taken) in
-    (t .before .largest .ensures .0, (k .0, k .1))
+    let l = c .before in
+    let is = sym (l .largest .ensures .1) in
+    (l .largest .ensures .0, (subst (λ (n : ℕ). dark < n) is (above c), subst (λ (n : ℕ). n < 2 ^ 276) is (peak-below (l .before .args .p) (l .before .pre))))
 
 byte-of-requires : tie.Need-byte-of-requires
 byte-of-requires c κs = let k = here c in (k .low, (k .high, k .under _ (r-peak _)))
@@ -105,8 +104,7 @@ add-result-3 c = record { fits = short _ _ _ _ (c .before .before .byte-of .ensu
 returns : tie.Need-returns
 returns c =
     let a = c .before .before .before in
-    let t = a .before .before in
-    let p = t .before .before .args .p in
+    let p = a .before .before .before .args .p in
     let d = a .digits-of .result in
     let r = c .before .before .byte-of in
     let g = c .before .byte-of2 in
@@ -114,15 +112,13 @@ returns c =
     subst (λ (q : Rgbe). AsWord q (r .result + g .result * 256 + b .result * 65536 + (d - 21) * 16777216))
     ((λ i. record { r = r .ensures .1 i; g = g .ensures .1 i; b = b .ensures .1 i; e = d - 21 })
     ∙ ap (λ (d : ℕ). coded d p) (here a .is)
-    ∙ sym (bytes-by-test p ∙ ap (λ (b : Bool). pick b (coded (size (peak p)) p) black) (sym (tested t) ∙ a .before .if1 .taken)))
+    ∙ sym (coded-bytes p (above (a .before))))
     (r .ensures .0, g .ensures .0, b .ensures .0, last c .1, refl)
 
 returns-2 : tie.Need-returns-2
 returns-2 c =
-    let t = c .before in
-    let p = t .before .before .args .p in
-    subst (λ (q : Rgbe). AsWord q 0)
-    (sym (bytes-by-test p ∙ ap (λ (b : Bool). pick b (coded (size (peak p)) p) black) (sym (tested t) ∙ c .if1 .left)))
+    let p = c .before .before .args .p in
+    subst (λ (q : Rgbe). AsWord q 0) (sym (black-bytes p (ltb-false dark (peak p) (sym (tested (c .before)) ∙ c .if1 .left))))
     (lit< tt, lit< tt, lit< tt, lit< tt, refl)
 
 pub word-of-spec : {M : Type 1} → statement M
@@ -130,7 +126,6 @@ word-of-spec =
     tie.close
     (tie.spec
     largest-requires
-    is-coded-requires
     digits-of-requires
     byte-of-requires
     byte-of-requires-2
