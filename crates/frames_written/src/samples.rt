@@ -87,7 +87,7 @@ fn put_pixel(out: &mut [u8], o: usize, q: Rgbe)
 
 // The bytes of n pixels, the first from sample `from` on, to the places from `to` on.
 fn pack_row(samples: &[f32], from: usize, n: usize, out: &mut [u8], to: usize)
-    requires { ⌜ (from + 3 * n ≤ length (now samples)) × (to + 4 * n ≤ length (now out)) ⌝ }
+    requires { ⌜ (from + 3 * n ≤ length (now samples)) × (to + 4 * n ≤ length (now out)) × (firstBright (now samples) from n ≡ n) ⌝ }
     ensures { λ _. ⌜ now (out .exit) ≡ spread 1 (now (out .entry)) to (packed (now (samples .entry)) from n) ⌝ }
 {
     let mut i = from;
@@ -103,7 +103,7 @@ fn pack_row(samples: &[f32], from: usize, n: usize, out: &mut [u8], to: usize)
 
 // How many bytes a row is written in, its first pixel from sample `from` on.
 fn row_length(samples: &[f32], from: usize, width: usize, line: &mut [u8; 131072]) -> usize
-    requires { ⌜ from + 3 * width ≤ length (now samples) ⌝ }
+    requires { ⌜ (from + 3 * width ≤ length (now samples)) × (firstBright (now samples) from width ≡ width) ⌝ }
     ensures { λ r. ⌜ r ≡ length (writtenRow (packed (now (samples .entry)) from width) 0 width) ⌝ }
 {
     if steps::is_coded(width) {
@@ -122,7 +122,7 @@ fn write_row(
     out: &mut [u8],
     to: usize,
 ) -> usize
-    requires { ⌜ (from + 3 * width ≤ length (now samples)) × (to + length (writtenRow (packed (now samples) from width) 0 width) ≤ length (now out)) ⌝ }
+    requires { ⌜ (from + 3 * width ≤ length (now samples)) × (to + length (writtenRow (packed (now samples) from width) 0 width) ≤ length (now out)) × (firstBright (now samples) from width ≡ width) ⌝ }
     ensures { λ r. ⌜ (r ≡ to + length (writtenRow (packed (now (samples .entry)) from width) 0 width)) × (now (out .exit) ≡ spread 1 (now (out .entry)) to (writtenRow (packed (now (samples .entry)) from width) 0 width)) ⌝ }
 {
     if steps::is_coded(width) {
@@ -135,7 +135,7 @@ fn write_row(
 
 // How many bytes the rows are written in.
 fn rows_length(samples: &[f32], width: usize, height: usize, line: &mut [u8; 131072]) -> usize
-    requires { ⌜ (width ≤ 65535) × (height ≤ 65535) × (3 * (width * height) ≤ length (now samples)) ⌝ }
+    requires { ⌜ (width ≤ 65535) × (height ≤ 65535) × (3 * (width * height) ≤ length (now samples)) × (firstBright (now samples) 0 (width * height) ≡ width * height) ⌝ }
     ensures { λ r. ⌜ r ≡ length (writtenRows (packed (now (samples .entry)) 0 (width * height)) 0 width height) ⌝ }
 {
     let mut at = 0;
@@ -151,7 +151,7 @@ fn rows_length(samples: &[f32], width: usize, height: usize, line: &mut [u8; 131
 
 // How many bytes the frame is written in.
 pub fn frame_length(samples: &[f32], width: usize, height: usize, line: &mut [u8; 131072]) -> usize
-    requires { ⌜ (width ≤ 65535) × (height ≤ 65535) × (3 * (width * height) ≤ length (now samples)) ⌝ }
+    requires { ⌜ (width ≤ 65535) × (height ≤ 65535) × (3 * (width * height) ≤ length (now samples)) × (firstBright (now samples) 0 (width * height) ≡ width * height) ⌝ }
     ensures { λ r. ⌜ r ≡ length (fileOf (now (samples .entry)) width height) ⌝ }
 {
     header::length(width, height) + rows_length(samples, width, height, line)
@@ -165,7 +165,7 @@ pub fn fits(
     line: &mut [u8; 131072],
     room: usize,
 ) -> bool
-    requires { ⌜ (width ≤ 65535) × (height ≤ 65535) × (3 * (width * height) ≤ length (now samples)) ⌝ }
+    requires { ⌜ (width ≤ 65535) × (height ≤ 65535) × (3 * (width * height) ≤ length (now samples)) × (firstBright (now samples) 0 (width * height) ≡ width * height) ⌝ }
     ensures { λ r. ⌜ r ≡ leb (length (fileOf (now (samples .entry)) width height)) room ⌝ }
 {
     if frame::worst_length(width, height) <= room {
@@ -183,7 +183,7 @@ fn write_rows(
     out: &mut [u8],
     to: usize,
 ) -> usize
-    requires { ⌜ (3 * (width * height) ≤ length (now samples)) × (to + length (writtenRows (packed (now samples) 0 (width * height)) 0 width height) ≤ length (now out)) ⌝ }
+    requires { ⌜ (3 * (width * height) ≤ length (now samples)) × (to + length (writtenRows (packed (now samples) 0 (width * height)) 0 width height) ≤ length (now out)) × (firstBright (now samples) 0 (width * height) ≡ width * height) ⌝ }
     ensures { λ r. ⌜ (r ≡ to + length (writtenRows (packed (now (samples .entry)) 0 (width * height)) 0 width height)) × (now (out .exit) ≡ spread 1 (now (out .entry)) to (writtenRows (packed (now (samples .entry)) 0 (width * height)) 0 width height)) ⌝ }
 {
     let mut at = 0;
@@ -205,7 +205,7 @@ pub fn write_frame(
     line: &mut [u8; 131072],
     out: &mut [u8],
 ) -> usize
-    requires { ⌜ (3 * (width * height) ≤ length (now samples)) × (length (fileOf (now samples) width height) ≤ length (now out)) ⌝ }
+    requires { ⌜ (3 * (width * height) ≤ length (now samples)) × (length (fileOf (now samples) width height) ≤ length (now out)) × (firstBright (now samples) 0 (width * height) ≡ width * height) ⌝ }
     ensures { λ r. ⌜ (r ≡ length (fileOf (now (samples .entry)) width height)) × (now (out .exit) ≡ spread 1 (now (out .entry)) 0 (fileOf (now (samples .entry)) width height)) ⌝ }
 {
     let at = header::write(width, height, out);

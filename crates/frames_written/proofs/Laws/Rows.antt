@@ -11,9 +11,9 @@ use Rattle.steps.specs.Place.{spread}
 use Rattle.steps.proofs.Laws.Place.{spread-then}
 use Rattle.rows_written.specs.Row.{writtenRow}
 use Rattle.rows_written.proofs.Laws.Row.{row-same}
-use Rattle.frames_written.specs.Samples.{packed}
+use Rattle.frames_written.specs.Samples.{packed, firstBright}
 use Rattle.frames_written.specs.Frame.{writtenRows}
-use Rattle.frames_written.proofs.Laws.Samples.{length-packed, packed-append}
+use Rattle.frames_written.proofs.Laws.Samples.{length-packed, packed-append, none-part}
 
 -- ---- Places
 
@@ -34,6 +34,16 @@ module _ (each w left at n : ℕ) (room : at + each * (w * left) ≤ n) (some : 
 
   pub room-again : at + each * w + each * (w * (left - 1)) ≤ n
   room-again = omega (arith, apart)
+
+-- every pixel of the rows that are left can be written: of the next row, and of those after it
+module _ (samples : List Float) (w left at : ℕ) (none : firstBright samples at (w * left) ≡ w * left) (some : 0 < left) where
+  pub none-row : firstBright samples at w ≡ w
+  none-row =
+      let here : at + 3 * 0 ≡ at = omega arith in
+      rw here at (none-part samples at (w * left) 0 w none (omega (arith, fewer w left some)))
+
+  pub none-rows : firstBright samples (at + 3 * w) (w * (left - 1)) ≡ w * (left - 1)
+  none-rows = none-part samples at (w * left) w (w * (left - 1)) none (omega (arith, fewer w left some))
 
 -- ---- Rows one after another
 

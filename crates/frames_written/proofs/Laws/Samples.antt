@@ -121,6 +121,35 @@ module _ (samples : List Float) where
           let next : i + 3 * suc k ≡ i + 3 + 3 * k = omega arith in
           rw next (rec k (omega (arith, by-test i n false e)))
 
+  -- ---- every one of n pixels can be written
+
+  pub none-each : (i n : ℕ) → firstBright samples i n ≡ n → (k : ℕ) → k < n → tooBright (pixelAt samples (i + 3 * k)) ≡ false
+  none-each i n none k l = before i n k (omega arith)
+
+  pub each-none : (i n : ℕ) → ((k : ℕ) → k < n → tooBright (pixelAt samples (i + 3 * k)) ≡ false) → firstBright samples i n ≡ n
+  unfolding firstBright
+  each-none i zero each = refl
+  each-none i (suc n) each =
+      let here : i + 3 * 0 ≡ i = omega arith in
+      let rest = each-none (i + 3) n (λ k l. let next : i + 3 * suc k ≡ i + 3 + 3 * k = omega arith in rw next at (each (suc k) (omega arith))) in
+      omega (arith, by-test i n false (rw here at (each 0 (omega arith))), rest)
+
+  -- some of them, from pixel m on
+  pub none-part : (i n m j : ℕ) → firstBright samples i n ≡ n → m + j ≤ n → firstBright samples (i + 3 * m) j ≡ j
+  none-part i n m j none l =
+      each-none (i + 3 * m) j (λ k h. let place : i + 3 * (m + k) ≡ i + 3 * m + 3 * k = omega arith in rw place at (none-each i n none (m + k) (omega arith)))
+
+  module _ (i n : ℕ) (none : firstBright samples i n ≡ n) (some : 0 < n) where
+    pub none-here : tooBright (pixelAt samples i) ≡ false
+    none-here =
+        let here : i + 3 * 0 ≡ i = omega arith in
+        rw here at (none-each i n none 0 some)
+
+    pub none-next : firstBright samples (i + 3) (n - 1) ≡ n - 1
+    none-next =
+        let next : i + 3 * 1 ≡ i + 3 = omega arith in
+        rw next at (none-part i n 1 (n - 1) none (omega arith))
+
   -- ---- a loop over rows and columns: k pixels were looked at, and f is the first that is too bright
 
   pub bright-start : (n : ℕ) → 0 + firstBright samples (3 * 0) (n - 0) ≡ firstBright samples 0 n

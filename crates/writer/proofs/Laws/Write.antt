@@ -152,6 +152,10 @@ module _ {A : Type 0} (answer : Answer ℕ → A) (samples : List Float) (n k : 
   unfolding brightChecked
   bright-passes h = rw (← e) (simp (le-ltb k n h))
 
+-- where it passes, every pixel can be written
+pub bright-passed : (samples : List Float) (n k : ℕ) → k ≡ firstBright samples 0 n → n ≤ k → firstBright samples 0 n ≡ n
+bright-passed samples n k e h = omega (arith, bright-most samples 0 n)
+
 -- ---- Check 13
 
 pub stored-fits : (file out out′ : List ℕ) (n : ℕ) → length file ≤ length out → n ≡ length file → out′ ≡ spread 1 out 0 file → (done n, out′) ≡ stored file out

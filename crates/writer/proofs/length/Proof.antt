@@ -1,6 +1,6 @@
 -- `writer::length` meets its contract: the checks, and then the length.
 use borrow.Author.Needs.{needs}
-use Rattle.writer.proofs.Laws.Write.{frame-wide, frame-high, frame-room, frame-area, length-refused, length-bright, length-done}
+use Rattle.writer.proofs.Laws.Write.{frame-wide, frame-high, frame-room, frame-area, bright-passed, length-refused, length-bright, length-done}
 use Rattle.writer.proofs.length.Statement.{statement}
 use Rattle.writer.proofs.length.Tie as tie
 
@@ -26,7 +26,7 @@ returns-2 : tie.Need-returns-2
 returns-2 c = search length-bright
 
 frame-length-requires : tie.Need-frame-length-requires
-frame-length-requires c κs = (search frame-wide, search frame-high, search frame-room)
+frame-length-requires c κs = (search frame-wide, search frame-high, search frame-room, search bright-passed)
 
 returns-3 : tie.Need-returns-3
 returns-3 c = search length-done

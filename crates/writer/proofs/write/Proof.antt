@@ -1,6 +1,6 @@
 -- `writer::write` meets its contract: each `return` is a refusal, or the file is stored.
 use borrow.Author.Needs.{needs}
-use Rattle.writer.proofs.Laws.Write.{frame-wide, frame-high, frame-room, frame-area, room-told, write-refused, write-bright, write-short, write-done}
+use Rattle.writer.proofs.Laws.Write.{frame-wide, frame-high, frame-room, frame-area, bright-passed, room-told, write-refused, write-bright, write-short, write-done}
 use Rattle.writer.proofs.write.Statement.{statement}
 use Rattle.writer.proofs.write.Tie as tie
 
@@ -26,10 +26,10 @@ returns-2 : tie.Need-returns-2
 returns-2 c = search write-bright
 
 fits-requires : tie.Need-fits-requires
-fits-requires c κs = (search frame-wide, search frame-high, search frame-room)
+fits-requires c κs = (search frame-wide, search frame-high, search frame-room, search bright-passed)
 
 write-frame-requires : tie.Need-write-frame-requires
-write-frame-requires c κs = (search frame-room, room-told _ _ _ (c .before .before .before .fits2 .ensures) (c .before .before .if3 .taken))
+write-frame-requires c κs = (search frame-room, room-told _ _ _ (c .before .before .before .fits2 .ensures) (c .before .before .if3 .taken), search bright-passed)
 
 same-length : tie.Need-same-length
 same-length c = search needs

@@ -11,7 +11,7 @@ is-coded-requires : tie.Need-is-coded-requires
 is-coded-requires c κs = search needs
 
 pack-row-requires : tie.Need-pack-row-requires
-pack-row-requires c κs = (search needs, omega (arith, coded-room (c .before .before .before .before .args .width) _ (c .before .before .is-coded .ensures) (c .before .if1 .taken)))
+pack-row-requires c κs = (search needs, omega (arith, coded-room (c .before .before .before .before .args .width) _ (c .before .before .is-coded .ensures) (c .before .if1 .taken)), search needs)
 
 row-length-requires : tie.Need-row-length-requires
 row-length-requires c κs =

@@ -4,7 +4,8 @@ use mathlib.Core.Path.{_≡_}
 use Prim.Native.Nat.{_+_, _*_, _^_, _≤_}
 use native.Mathlib.Omega.{arith}
 use lib.ListN.{length}
-use Rattle.frames_written.proofs.Laws.Rows.{sampleRows, room-row, room-again, samples-counted, samples-count-fits, rows-count-end}
+use Rattle.frames_written.specs.Samples.{firstBright}
+use Rattle.frames_written.proofs.Laws.Rows.{sampleRows, room-row, room-again, none-row, none-rows, samples-counted, samples-count-fits, rows-count-end}
 use Rattle.frames_written.proofs.Laws.Frame.{rows-fit}
 use Rattle.frames_written.proofs.samples.rows_length.Statement.{statement}
 use Rattle.frames_written.proofs.samples.rows_length.Tie as tie
@@ -12,16 +13,16 @@ use Rattle.frames_written.proofs.samples.rows_length.Tie as tie
 abbrev Inv-loop : tie.InvT-loop
 Inv-loop samples width height line₀ at₀ left₀ n₀ line at left n =
     (at + 3 * (width * left) ≤ length samples) × (n + length (sampleRows samples width at left) ≡ length (sampleRows samples width 0 height))
-    × (length (sampleRows samples width 0 height) ≤ 2 ^ 35)
+    × (length (sampleRows samples width 0 height) ≤ 2 ^ 35) × (firstBright samples at (width * left) ≡ width * left)
 
 abbrev μ-loop : tie.MeasureT-loop
 μ-loop samples width height line₀ at₀ left₀ n₀ line at left n = left
 
 loop-holds : tie.Need-loop-holds Inv-loop μ-loop
-loop-holds c = (search needs, omega arith, search rows-fit)
+loop-holds c = (search needs, omega arith, search rows-fit, search needs)
 
 row-length-requires : tie.Need-row-length-requires Inv-loop μ-loop
-row-length-requires c κs = search room-row
+row-length-requires c κs = (search room-row, search none-row)
 
 add-n : tie.Need-add-n Inv-loop μ-loop
 add-n c = record { fits = search samples-count-fits }
@@ -39,7 +40,7 @@ loop-less : tie.Need-loop-less Inv-loop μ-loop
 loop-less c = search needs
 
 loop-again : tie.Need-loop-again Inv-loop μ-loop
-loop-again c = (search room-again, search samples-counted, search needs)
+loop-again c = (search room-again, search samples-counted, search needs, search none-rows)
 
 returns : tie.Need-returns Inv-loop μ-loop
 returns c = search rows-count-end

@@ -8,7 +8,7 @@ write-requires : tie.Need-write-requires
 write-requires c κs = search frame-header
 
 write-rows-requires : tie.Need-write-rows-requires
-write-rows-requires c κs = (search needs, search frame-rows)
+write-rows-requires c κs = (search needs, search frame-rows, search needs)
 
 same-length : tie.Need-same-length
 same-length c = search needs

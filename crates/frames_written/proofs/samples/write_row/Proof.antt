@@ -11,7 +11,7 @@ is-coded-requires : tie.Need-is-coded-requires
 is-coded-requires c κs = search needs
 
 pack-row-requires : tie.Need-pack-row-requires
-pack-row-requires c κs = (search needs, omega (arith, coded-room (c .before .before .before .before .before .args .width) _ (c .before .before .is-coded .ensures) (c .before .if1 .taken)))
+pack-row-requires c κs = (search needs, omega (arith, coded-room (c .before .before .before .before .before .args .width) _ (c .before .before .is-coded .ensures) (c .before .if1 .taken)), search needs)
 
 write-row-requires : tie.Need-write-row-requires
 write-row-requires c κs =
@@ -33,7 +33,7 @@ returns c =
     (line-placed _ _ _ _ _ room (packs .pack-row .ensures) _ _ (writes .write-row .ensures .0), line-stored _ _ _ _ _ room (packs .pack-row .ensures) _ _ _ (writes .write-row .ensures .1))
 
 pack-row-requires-2 : tie.Need-pack-row-requires-2
-pack-row-requires-2 c κs = (search needs, search flat-fits)
+pack-row-requires-2 c κs = (search needs, search flat-fits, search needs)
 
 mul-result : tie.Need-mul-result
 mul-result c = search needs
