@@ -1,21 +1,17 @@
 -- Demand 3 over what the calls promise: the file is what the writer left, and the reader's answer is that of its definition.
-use Prim.Native.Nat.{ℕ, _*_, _^_, _<_, _≤_}
+use Prim.Native.Nat.{ℕ, _*_}
 use mathlib.Core.Bool.{Bool, true, false, _||_, false≢true}
 use mathlib.Core.List.{List, _++_}
-use mathlib.Core.Logic.{⊎-elim}
 use mathlib.Core.Path.{_≡_, refl, sym, ap, subst, _∙_}
-use native.Mathlib.Nat.{pos-of-ne-zero, lt-of-lt-of-le}
+use native.Mathlib.Nat.{pos-of-ne-zero}
 use native.Mathlib.Omega.{arith}
-use borrow.Author.Tests.{le-ltb, lt-leb, eq-eqb, ne-eqb, eqb-false, ltb-false}
-use lib.Dec.{ltb, lit<, lit≤}
+use borrow.Author.Tests.{le-ltb, eq-eqb, ne-eqb, eqb-false, ltb-false}
+use lib.Dec.{ltb}
 use lib.Ieee.{Float}
 use lib.ListN.{length, take, drop}
 use lib.Seq.{take-at}
-use Rattle.steps.proofs.Laws.Order.{lt-or-ge}
 use Rattle.steps.specs.Answer.{Answer}
 use Rattle.steps.proofs.Laws.Answer.{Passed}
-use Rattle.pixel.specs.Rgbe.{peak, tooBright}
-use Rattle.loss.specs.Kept.{Between}
 use Rattle.header.specs.declared.Head.{Head}
 use Rattle.rows_read.specs.Row.{RowRule, crateRow}
 use Rattle.back.proofs.Laws.Row.{RowsBack, crate-row-back}
@@ -25,10 +21,9 @@ use Rattle.reader.specs.declared.ReadAnswer.{ReadAnswer}
 use Rattle.frames_written.specs.Samples.{firstBright}
 use Rattle.frames_written.specs.Frame.{frameOf, fileOf}
 use Rattle.writer.specs.Write.{frameChecks, brightChecked, stored, writeOf}
-use Rattle.frames_written.proofs.Laws.Samples.{first-named}
 use Rattle.writer.proofs.Laws.Told.{Stored, write-told, write4-told}
-use Rattle.kept.specs.Back.{pixel, Sizes, AllInRange, NoOnes, ReadBack, ReadBack4, CallsComeBack, CallsComeBack4, IsWritten}
-use Rattle.kept.proofs.Laws.Back.{PixelsBack, crate-pixels, read-back-by, read-back4-by}
+use Rattle.kept.specs.Back.{Sizes, AllInRange, NoOnes, ReadBack, ReadBack4, CallsComeBack, CallsComeBack4, IsWritten}
+use Rattle.kept.proofs.Laws.Back.{PixelsBack, crate-pixels, in-range-passes, read-back-by, read-back4-by}
 
 -- ---- The sizes of a frame that was written
 
@@ -74,17 +69,6 @@ calls-back4 = calls-back4-by crateRow cratePixel crate-row-back
 
 -- ---- A frame in range is written: no pixel of it is too bright
 
-not-bright : (samples : List Float) (k : ℕ) → Between (peak (pixel samples k)) → tooBright (pixel samples k) ≡ false
-unfolding tooBright
-not-bright samples k b =
-    lt-leb (2 ^ 276) (peak (pixel samples k))
-    (⊎-elim (λ z. subst (λ (v : ℕ). v < 2 ^ 276) (sym z) (lit< tt)) (λ l. lt-of-lt-of-le (l .1) (lit≤ {m = 2 ^ 180} {n = 2 ^ 276} tt)) b)
-
-none-bright : (samples : List Float) (n : ℕ) → AllInRange samples n → n ≤ firstBright samples 0 n
-none-bright samples n all =
-    let k : ℕ = firstBright samples 0 n in
-    ⊎-elim (λ l. absurd (false≢true (sym (not-bright samples k (all k l .largest)) ∙ first-named samples n k refl l .bright))) (λ l. l) (lt-or-ge k n)
-
 pub in-range-written : (w h : ℕ) (samples : List Float) → Sizes w h → length samples ≡ 3 * (w * h) → AllInRange samples (w * h) → IsWritten w h samples
 unfolding writeOf brightChecked stored
 in-range-written w h samples sizes count all out room =
@@ -93,6 +77,6 @@ in-range-written w h samples sizes count all out room =
       le-ltb 65535 w (sizes .wide),
       le-ltb 65535 h (sizes .high),
       eq-eqb (length samples) (3 * (w * h)) count,
-      le-ltb (firstBright samples 0 (w * h)) (w * h) (none-bright samples (w * h) all),
+      le-ltb (firstBright samples 0 (w * h)) (w * h) (omega (arith, in-range-passes samples (w * h) all)),
       le-ltb (length out) (length (fileOf samples w h)) room,
     )

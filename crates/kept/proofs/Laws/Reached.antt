@@ -124,11 +124,11 @@ abbrev lit : List ℕ
 lit = 160 ∷ 160 ∷ 160 ∷ 130 ∷ []
 
 dim-bytes : bytes one ≡ dim
-unfolding bytesOf peak tooBright mag size
+unfolding bytesOf peak mag size
 dim-bytes = refl
 
 lit-bytes : bytes twoAndAHalf ≡ lit
-unfolding bytesOf peak tooBright mag size
+unfolding bytesOf peak mag size
 lit-bytes = refl
 
 dim-fits : tooBright (trio one) ≡ false

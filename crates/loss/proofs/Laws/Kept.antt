@@ -5,7 +5,7 @@ use mathlib.Core.Logic.{⊎-elim}
 use Prim.Native.Nat.{ℕ, _+_, _-_, _*_, _/_, _^_, _≤_, _<_}
 use native.Mathlib.Nat.{mod-lt, zero-mul, not-suc-le-zero, lt-of-le-of-lt, lt-of-lt-of-le}
 use native.Mathlib.Omega.{arith}
-use lib.Dec.{T, eqb→eq, lit<, lit≤}
+use lib.Dec.{T, eqb→eq, lit<}
 use lib.Pow.{pow-pos, split}
 use lib.Ieee.{Float, nan, inf, fin, binary32, up, down, fits, size}
 use lib.Ieee.Digits.{Equals, size-lt, size-le, size-reaches}

@@ -1,11 +1,11 @@
 -- The bytes of a pixel by cases of its largest sample, and one byte as a quotient.
-use mathlib.Core.Path.{_≡_, refl, sym, ap, _∙_, subst}
-use mathlib.Core.Bool.{Bool, true, false, not, _&&_}
+use mathlib.Core.Path.{_≡_, sym, ap, _∙_, subst}
+use mathlib.Core.Bool.{Bool, false, not}
 use mathlib.Core.Logic.{⊎-elim, _⊎_, inl, inr}
 use Prim.Native.Nat.{ℕ, _-_, _*_, _/_, _^_, _≤_, _<_, max}
 use native.Mathlib.Nat.{le-max-left, le-max-right, le-trans, le-of-lt, lt-of-le-of-lt, max-eq-left, max-eq-right, mul-assoc, mul-comm, mul-lt-mul-of-pos-right, div-lt-iff-lt-mul}
 use native.Mathlib.Omega.{arith}
-use lib.Dec.{T, ltb, leb, lit<}
+use lib.Dec.{ltb, leb, lit<}
 use lib.Pow.{pow-pos}
 use lib.Ieee.{Float, size}
 use lib.Ieee.Nearest.{div-same}

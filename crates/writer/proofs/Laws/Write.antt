@@ -20,6 +20,7 @@ use Rattle.frames_written.specs.Samples.{firstBright}
 use Rattle.frames_written.specs.Frame.{frameOf, worstOf, fileOf}
 use Rattle.writer.specs.Write.{sizeChecks, frameChecks, brightChecked, stored, lengthOf, length4Of, worstAnswer, writeOf, write4Of}
 use Rattle.writer.specs.Inner.{failing}
+use Rattle.frames_written.proofs.Laws.Samples.{bright-most}
 use Rattle.frames_written.proofs.Laws.Frame.{area-fits, count-of-fits}
 
 -- ---- The first check that fails, by its number
