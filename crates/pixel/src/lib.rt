@@ -180,7 +180,7 @@ fn byte_of(x: f32, digits: u32) -> u32
 
 // A pixel's four bytes as one word, the first lowest: four bytes of one word are stored at once.
 fn word_of(p: Pixel) -> u32
-    requires { ⌜ tooBright p ≡ false ⌝ }
+    requires { ⌜ peak p < 2 ^ 276 ⌝ }
     ensures { λ w. ⌜ AsWord (bytesOf p) w ⌝ }
 {
     let v = largest(p);

@@ -15,7 +15,7 @@ use Rattle.pixel.specs.Rgbe.{peak, dark, coded}
 use Rattle.pixel.specs.Inner.{AsWord}
 use Rattle.pixel.proofs.Laws.Digits.{size-low}
 use Rattle.pixel.proofs.Laws.Limits.{above-dark}
-use Rattle.pixel.proofs.Laws.Bytes.{r-peak, g-peak, b-peak, peak-below, coded-bytes, black-bytes}
+use Rattle.pixel.proofs.Laws.Bytes.{r-peak, g-peak, b-peak, coded-bytes, black-bytes}
 use Rattle.pixel.proofs.word_of.Statement.{statement}
 use Rattle.pixel.proofs.word_of.Tie as tie
 
@@ -44,7 +44,7 @@ above c = ltb-true dark (peak (c .before .before .args .p)) (sym (tested (c .bef
 here : (c : tie.After-digits-of) → Known (c .before .before .before .args .p) (c .digits-of .result)
 here c =
     let l = c .before .before in
-    known (l .before .args .p) (c .digits-of .result) (c .digits-of .ensures ∙ ap size (l .largest .ensures .1)) (above (c .before)) (peak-below (l .before .args .p) (l .before .pre))
+    known (l .before .args .p) (c .digits-of .result) (c .digits-of .ensures ∙ ap size (l .largest .ensures .1)) (above (c .before)) (l .before .pre)
 
 largest-requires : tie.Need-largest-requires
 largest-requires c κs = search needs
@@ -53,7 +53,7 @@ digits-of-requires : tie.Need-digits-of-requires
 digits-of-requires c κs =
     let l = c .before in
     let is = sym (l .largest .ensures .1) in
-    (l .largest .ensures .0, (subst (λ (n : ℕ). dark < n) is (above c), subst (λ (n : ℕ). n < 2 ^ 276) is (peak-below (l .before .args .p) (l .before .pre))))
+    (l .largest .ensures .0, (subst (λ (n : ℕ). dark < n) is (above c), subst (λ (n : ℕ). n < 2 ^ 276) is (l .before .pre)))
 
 byte-of-requires : tie.Need-byte-of-requires
 byte-of-requires c κs = let k = here c in (k .low, (k .high, k .under _ (r-peak _)))
