@@ -139,6 +139,38 @@ def pixels():
     yield line("bf8000003f800000ff7fffff", "00800081")
 
 
+def bounds_of_bytes():
+    """Where check 12 passes no byte is over 255 and no pixel starts 1,1,1; at 2^127 the exponent byte would be 256."""
+    def line(w, samples, four):
+        data = hexed(HEADER.format(w=w, h=1).encode()) + four
+        return f"write {w} 1 {len(data) // 2} {samples}", f"0 0 {len(data) // 2} {data}"
+
+    # the largest f32 below 2^127, alone, three times, and beside what counts as 0
+    yield line(1, "7effffff0000000000000000", "ff0000ff")
+    yield line(1, "7effffff" * 3, "ffffffff")
+    yield line(1, "ff8000007effffffffc00000", "00ff00ff")
+    # 2^127 in each place, the next f32, the largest and infinity
+    for bright in ("7f000000", "7f000001", "7f7fffff", "7f800000"):
+        for k in range(3):
+            samples = ["7effffff"] * 3
+            samples[k] = bright
+            yield f"len 1 1 {''.join(samples)}", "12 0 0"
+            yield f"write 2 1 70 {'7effffff' * 3}{''.join(samples)}", f"12 1 0 {lent(70)}"
+    # the largest f32 below a power of two has the byte 255, the power itself 128
+    yield line(1, "3f7fffff3f8000003f7fffff", "7f807f81")
+    yield line(1, "3f7fffff" * 3, "ffffff80")
+    # 1,1 beside 128, and 0.004, which the Rust writes as 1,1,1,128, in rows of one and of seven
+    yield line(1, "3f8000003c0000003c000000", "80010181")
+    yield line(1, "3c0000003f8000003c000000", "01800181")
+    yield line(1, "3c0000003c0000003f800000", "01018081")
+    yield line(1, "3b83126f" * 3, "83838379")
+    yield line(7, "3b83126f" * 21, "83838379" * 7)
+    # the writer of four-byte pixels writes what it is given
+    file1 = hexed(HEADER.format(w=1, h=1).encode())
+    for four in ("01010101", "01010180", "010101ff"):
+        yield f"write4 1 1 67 {four}", f"0 0 67 {file1}{four}"
+
+
 def worst_lengths():
     """Worst lengths: 61 bytes and the digits, then 4w a row, or at widths 8 to 32,767 a mark and four channels of literals."""
     def answer(w, h):
@@ -241,6 +273,7 @@ def old_runs():
             yield w, 1, p + run + q * w
             yield w, 1, p + q + run + q * w
             yield w, 1, run + p * w
+            yield w, 1, run
         yield w, 1, p + q + [1, 1, 1, 0, 1, 1, 1, 1] + q * w
         yield w, 1, p + q + [1, 1, 1, 0] * 2 + [1, 1, 1, 1] + q * w
         yield w, 1, p + q + [1, 1, 1, 0] * 3 + q * w
@@ -370,7 +403,7 @@ def main():
         return run.stdout.decode().split("\n")[:-1]
 
     pairs = sky_lines("compare/skies")
-    for part in (reader_refusals, writer_refusals, pixels, worst_lengths, no_form):
+    for part in (reader_refusals, writer_refusals, pixels, bounds_of_bytes, worst_lengths, no_form):
         pairs += part()
     by_document = len(pairs)
     lines = list(dict.fromkeys(rust_cases(lambda line: answers([line])[0])))

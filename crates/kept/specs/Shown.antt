@@ -4,7 +4,7 @@ use mathlib.Core.List.{List, [], _∷_, _++_}
 use Prim.Native.Nat.{ℕ, zero, suc, _+_, _-_, _^_}
 use lib.Ieee.{nan, inf}
 use lib.ListN.{replicate}
-use Rattle.steps.specs.Answer.{done, refuse}
+use Rattle.steps.specs.Answer.{done, refused, refuse}
 use Rattle.pixel.specs.declared.Packed.the-variants.{Bytes, TooBright}
 use Rattle.header.specs.Head.{head}
 use Rattle.words.specs.Lines.{rgbeLine, lineFeed, space}
@@ -88,4 +88,10 @@ shown =
     ∷ writes (pixel (inf false) (whole 1 0) (whole 1 0)) TooBright
     ∷ writes (pixel (inf true) (whole 1 0) (whole 1 0)) (Bytes (rgbe 0 128 128 129))
     ∷ writes (pixel nan (whole 5 0) (whole 1 0)) (Bytes (rgbe 0 160 32 131))
+    -- 15: the f32 nearest to 0.004, three times; and a file of the pixel that the crate writes for it
+    ∷ writes (pixel (part 0x83126f 31) (part 0x83126f 31) (part 0x83126f 31)) (Bytes (rgbe 131 131 131 121))
+    ∷ reads (file [] (rows (digit 1) (digit 1)) ++ (1 ∷ 1 ∷ 1 ∷ 128 ∷ []))
+    (replicate 3 (whole 1 1)) (replicate 4 7)
+    (refused 9 0)
+    (replicate 3 (whole 1 1)) (1 ∷ 1 ∷ 1 ∷ 128 ∷ [])
     ∷ []

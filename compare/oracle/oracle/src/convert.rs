@@ -269,6 +269,8 @@ pub fn differences() {
     print_write("width 1, height 0", 1, 0, &[]);
     print_write("width 1, height 1, two samples", 1, 1, &[1.0, 1.0]);
     print_write("width 70,000, height 1", 70_000, 1, &vec![1.0; 210_000]);
+    print_write("width 1, height 1, 0.004 three times", 1, 1, &[0.004; 3]);
+    print_read("that pixel, 1,1,1,128, in a row of 1", &after(b"#?RGBE\n\n-Y 1 +X 1\n", &[1, 1, 1, 128]), 3);
     let (fits, used) = crate_side::write_into(1, 1, &[1.0; 3], 66);
     println!("writer, width 1, height 1, room of 66 bytes: {}, {used} bytes written", if fits { "done" } else { "error" });
     guarantee();
