@@ -41,7 +41,8 @@
  * THE WRITING. A negative sample and one that is no number are written as 0, and a pixel whose largest sample is not
  * above 1e-32 as black; 2^127 and more, plus infinity too, is refusal 12. Each sample is rounded down, by less than one
  * step of its pixel. What is written is read back so where each pixel's largest sample is 0 or from 2^-32 to below
- * 2^31; darker pixels come back too bright and brighter ones too dark.
+ * 2^31; darker pixels come back too bright and brighter ones too dark. No pixel that is written from samples starts
+ * 1, 1, 1. Four-byte pixels are written as they are given: see doorwhisp_write4.
  */
 #ifndef DOORWHISP_H
 #define DOORWHISP_H
@@ -182,6 +183,8 @@ void doorwhisp_worst(size_t width, size_t height, struct doorwhisp_answer *answe
  * Writes the file of the frame to the start of `out`; its length is in `taken`. Room for the worst length is always
  * enough, and then the length is not counted first.
  * Refusals: 7, 10, 11, 12, 13 (12 not for four-byte pixels); each leaves `out` as it was lent.
+ * doorwhisp_write4 writes the pixels as they are given, those that start 1, 1, 1 too: at widths 1 to 7 and over 32,767,
+ * where rows are flat, such a pixel is read as an old run, and the picture does not come back. At other widths it does.
  */
 void doorwhisp_write(size_t width, size_t height, const float *samples, size_t samples_length, uint8_t *out,
                      size_t out_length, struct doorwhisp_answer *answer);

@@ -28,7 +28,8 @@
 //! A negative sample and one that is no number are written as 0, and a pixel whose largest sample is not above 1e-32 as
 //! black; 2^127 and more, plus infinity too, is refusal 12. Each sample is rounded down, by less than one step of its
 //! pixel. What is written is read back so where each pixel's largest sample is 0 or from 2^-32 to below 2^31; darker
-//! pixels come back too bright and brighter ones too dark.
+//! pixels come back too bright and brighter ones too dark. No pixel that is written from samples starts 1, 1, 1;
+//! four-byte pixels are written as they are given ([`HdrEncoder::new_from_rgbe`]).
 
 mod decoder;
 mod encoder;

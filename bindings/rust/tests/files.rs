@@ -267,6 +267,22 @@ fn a_frame_of_four_byte_pixels_is_refused_by_number() {
 }
 
 #[test]
+fn four_byte_pixels_that_start_1_1_1_are_written_as_they_are_given() {
+    // in a flat row such a pixel is an old run, and nothing follows it; in a coded row it is a pixel
+    let flat = HdrEncoder::new_from_rgbe(&[1, 1, 1, 136], EncoderOptions::new(1, 1));
+    let file = flat.encode_to_vec().unwrap();
+    assert!(file.ends_with(b"+X 1\n\x01\x01\x01\x88"));
+    let end = HdrDecoder::new(&file).decode();
+    assert_eq!(end, Err(HdrError::BytesEnd { row: 0 }));
+    let pixels = [1, 1, 1, 136].repeat(8);
+    let coded = HdrEncoder::new_from_rgbe(&pixels, EncoderOptions::new(8, 1));
+    let file = coded.encode_to_vec().unwrap();
+    assert_eq!(HdrDecoder::new(&file).decode(), Ok(vec![1.0; 24]));
+    // and from samples there is none
+    assert_eq!(pixel_to_bytes([0.004; 3]), Ok([131, 131, 131, 121]));
+}
+
+#[test]
 fn sizes_that_pass_2_to_the_64_are_none() {
     let of = |width, height| HdrEncoder::new(&[], EncoderOptions::new(width, height));
     assert_eq!(of(usize::MAX, 2).expected_buffer_size(), None);
