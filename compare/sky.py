@@ -511,9 +511,17 @@ def lost():
     check("nothing is said into the copy", load("shut.hdr") == load("noisy.hdr"))
 
 
+def heeded():
+    """Signals that whoever started this script has ignored would be ignored by what it starts."""
+    for sent in (signal.SIGTERM, signal.SIGHUP, signal.SIGINT):
+        signal.signal(sent, signal.SIG_DFL)
+
+
 def begin(*words):
     """Starts a copy, and waits until it has a file to write to."""
-    started = subprocess.Popen([SKY, *words], cwd=FOLDER, stdout=subprocess.PIPE, stderr=subprocess.PIPE, start_new_session=True)
+    started = subprocess.Popen(
+        [SKY, *words], cwd=FOLDER, stdout=subprocess.PIPE, stderr=subprocess.PIPE, start_new_session=True, preexec_fn=heeded
+    )
     while not parts() and started.poll() is None:
         time.sleep(0.01)
     return started
