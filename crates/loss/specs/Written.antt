@@ -12,9 +12,9 @@ pub record Fits (q : Rgbe) : Type 0 where
   pub b : q .b ≤ 255
   pub e : q .e ≤ 255
 
--- what every pixel is written as: black, or one of the three is at least 128 and the last is from 22 to 255
+-- black, or one of the three is at least 128 and the last at least 22
 abbrev pub Written : Rgbe → Type 0
-Written q = (q ≡ black) ⊎ (((128 ≤ q .r) ⊎ ((128 ≤ q .g) ⊎ (128 ≤ q .b))) × ((22 ≤ q .e) × (q .e ≤ 255)))
+Written q = (q ≡ black) ⊎ (((128 ≤ q .r) ⊎ ((128 ≤ q .g) ⊎ (128 ≤ q .b))) × (22 ≤ q .e))
 
 -- what starts an old run: the first three are 1,1,1
 pub record Ones (q : Rgbe) : Type 0 where

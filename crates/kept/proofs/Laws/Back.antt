@@ -1,13 +1,12 @@
 -- Demand 3, read back, for the whole frame, over the definitions of writer and reader, by any rule for a row and for a pixel that keeps what is asked of it.
-use Prim.Native.Nat.{ℕ, _+_, _-_, _*_, _^_, _<_, _≤_, zero-le}
+use Prim.Native.Nat.{ℕ, _+_, _-_, _*_, _<_, _≤_, zero-le}
 use mathlib.Core.Bool.{Bool, true, false}
 use mathlib.Core.List.{List, _++_}
-use mathlib.Core.Logic.{⊎-elim}
 use mathlib.Core.Path.{_≡_, refl, sym, ap, subst, _∙_}
-use native.Mathlib.Nat.{lt-of-lt-of-le, mul-comm, mul-left-comm, zero-add}
+use native.Mathlib.Nat.{mul-comm, mul-left-comm, zero-add}
 use native.Mathlib.Omega.{arith}
-use borrow.Author.Tests.{lt-leb, eqb-true}
-use lib.Dec.{eqb, lit<, lit≤}
+use borrow.Author.Tests.{eqb-true}
+use lib.Dec.{eqb}
 use lib.Ieee.{Float, size}
 use lib.ListN.{length, drop}
 use lib.Seq.{drop-at}
@@ -15,9 +14,9 @@ use Rattle.steps.specs.Place.{spread}
 use Rattle.steps.proofs.Laws.Place.{length-spread, spread-front}
 use Rattle.pixel.specs.declared.Pixel.{Pixel}
 use Rattle.pixel.specs.declared.Rgbe.{Rgbe}
-use Rattle.pixel.specs.Rgbe.{crateUnits, pixelOf, peak, dark, tooBright, bytesOf, rgbeAt}
+use Rattle.pixel.specs.Rgbe.{crateUnits, pixelOf, peak, dark, bytesOf, rgbeAt}
 use Rattle.loss.specs.Written.{Ones}
-use Rattle.loss.specs.Kept.{Between, InRange, Lies, step, KeptAll, zeros}
+use Rattle.loss.specs.Kept.{InRange, Lies, step, KeptAll, zeros}
 use Rattle.loss.proofs.Laws.Kept.{kept-at-a-pixel, black-back}
 use Rattle.loss.proofs.Laws.Written.{written-no-ones}
 use Rattle.flat_read.specs.Flat.{isRepeat}
@@ -26,9 +25,8 @@ use Rattle.back.proofs.Laws.Row.{RowsBack, crate-row-back}
 use Rattle.reader.specs.Samples.{SampleRule}
 use Rattle.reader.specs.Inner.{samplesFrom}
 use Rattle.reader.specs.Read.{cratePixel, readBy}
-use Rattle.frames_written.specs.Samples.{pixelAt, packed, firstBright}
+use Rattle.frames_written.specs.Samples.{pixelAt, packed}
 use Rattle.frames_written.specs.Frame.{fileOf}
-use Rattle.frames_written.proofs.Laws.Samples.{none-each, each-none}
 use Rattle.kept.specs.Radiance.{isOldRun}
 use Rattle.kept.specs.Back.{pixel, Sizes, AllInRange, Enough, Beyond, NoOnes, ComesBack, ComesBack4}
 use Rattle.kept.proofs.Laws.Samples.{length-samples, pixel-of-samples, bytes-of-pixel}
@@ -83,23 +81,9 @@ not-old-run q none = go (eqb (q .r) 1) (eqb (q .g) 1) (eqb (q .b) 1) refl refl r
 packed-bytes : (samples : List Float) (n k : ℕ) → k < n → rgbeAt (packed samples 0 n) (4 * k) ≡ bytesOf (pixel samples k)
 packed-bytes samples n k h = bytes-of-pixel samples 0 n k h ∙ ap (λ (i : ℕ). bytesOf (pixelAt samples i)) (zero-add (3 * k))
 
--- of a frame that passed check 12
-pub packed-no-ones : (samples : List Float) (w n : ℕ) → firstBright samples 0 n ≡ n → NoOnes (packed samples 0 n) w n
+pub packed-no-ones : (samples : List Float) (n k : ℕ) → k < n → isRepeat (packed samples 0 n) (4 * k) ≡ false
 unfolding isRepeat isOldRun
-packed-no-ones samples w n none flat k h =
-    let dim : tooBright (pixel samples k) ≡ false = rw (zero-add (3 * k)) at (none-each samples 0 n none k h) in
-    ap isOldRun (packed-bytes samples n k h) ∙ not-old-run (bytesOf (pixel samples k)) (written-no-ones (pixel samples k) dim)
-
--- ---- A frame in range passes check 12
-
-not-bright : (p : Pixel) → Between (peak p) → tooBright p ≡ false
-unfolding tooBright
-not-bright p b =
-    lt-leb (2 ^ 276) (peak p)
-    (⊎-elim (λ z. subst (λ (v : ℕ). v < 2 ^ 276) (sym z) (lit< tt)) (λ l. lt-of-lt-of-le (l .1) (lit≤ {m = 2 ^ 180} {n = 2 ^ 276} tt)) b)
-
-pub in-range-passes : (samples : List Float) (n : ℕ) → AllInRange samples n → firstBright samples 0 n ≡ n
-in-range-passes samples n all = each-none samples 0 n (λ k l. rw (zero-add (3 * k)) (not-bright (pixel samples k) (all k l .largest)))
+packed-no-ones samples n k h = ap isOldRun (packed-bytes samples n k h) ∙ not-old-run (bytesOf (pixel samples k)) (written-no-ones (pixel samples k))
 
 -- ---- What is asked of a rule for a pixel
 
@@ -111,18 +95,17 @@ pub record PixelsBack (rule : SampleRule) : Type 0 where
 -- ---- Demand 3, by any rules of which that holds
 
 module _ (rowRule : RowRule) (rule : SampleRule) (rows : RowsBack rowRule) where
-  -- where check 12 passed, each pixel comes back as what its four bytes stand for, in range or not
-  pub pixels-back-by : (w h : ℕ) (samples : List Float) → Sizes w h → firstBright samples 0 (w * h) ≡ w * h → (rest : List ℕ) (widest highest : ℕ) (out : List Float) (store : List ℕ) → Enough w h widest highest out store
+  -- each pixel comes back as what its four bytes stand for, in range or not
+  pub pixels-back-by : (w h : ℕ) (samples : List Float) → Sizes w h → (rest : List ℕ) (widest highest : ℕ) (out : List Float) (store : List ℕ) → Enough w h widest highest out store
       → (k : ℕ) → k < w * h → pixel (readBy rowRule rule (fileOf samples w h ++ rest) widest highest out store .1) k ≡ rule (bytesOf (pixel samples k))
-  pixels-back-by w h samples sizes none rest widest highest out store enough k l =
-      read-back4-by rowRule rule rows w h (packed samples 0 (w * h)) sizes (packed-no-ones samples w (w * h) none) rest widest highest out store enough .pixels k l
+  pixels-back-by w h samples sizes rest widest highest out store enough k l =
+      read-back4-by rowRule rule rows w h (packed samples 0 (w * h)) sizes (λ flat. packed-no-ones samples (w * h)) rest widest highest out store enough .pixels k l
       ∙ ap rule (packed-bytes samples (w * h) k l)
 
   pub read-back-by : PixelsBack rule → (w h : ℕ) (samples : List Float) → Sizes w h → AllInRange samples (w * h) → ComesBack rowRule rule w h samples
   read-back-by pixels w h samples sizes all rest widest highest out store enough =
-      let none = in-range-passes samples (w * h) all in
-      let back = read-back4-by rowRule rule rows w h (packed samples 0 (w * h)) sizes (packed-no-ones samples w (w * h) none) rest widest highest out store enough in
-      let is = pixels-back-by w h samples sizes none rest widest highest out store enough in
+      let back = read-back4-by rowRule rule rows w h (packed samples 0 (w * h)) sizes (λ flat. packed-no-ones samples (w * h)) rest widest highest out store enough in
+      let is = pixels-back-by w h samples sizes rest widest highest out store enough in
       record {
         answered = back .answered;
         kept = λ k n l lies. subst (KeptAll (step n) (pixel samples k)) (sym (is k l)) (pixels .kept (pixel samples k) n (all k l) lies);
@@ -142,7 +125,7 @@ crate-pixels = record {
 pub read-back4 : (w h : ℕ) (px : List ℕ) → Sizes w h → NoOnes px w (w * h) → ComesBack4 crateRow cratePixel w h px
 read-back4 = read-back4-by crateRow cratePixel crate-row-back
 
-pub pixels-back : (w h : ℕ) (samples : List Float) → Sizes w h → firstBright samples 0 (w * h) ≡ w * h → (rest : List ℕ) (widest highest : ℕ) (out : List Float) (store : List ℕ) → Enough w h widest highest out store
+pub pixels-back : (w h : ℕ) (samples : List Float) → Sizes w h → (rest : List ℕ) (widest highest : ℕ) (out : List Float) (store : List ℕ) → Enough w h widest highest out store
     → (k : ℕ) → k < w * h → pixel (readBy crateRow cratePixel (fileOf samples w h ++ rest) widest highest out store .1) k ≡ pixelOf crateUnits (bytesOf (pixel samples k))
 unfolding cratePixel
 pixels-back = pixels-back-by crateRow cratePixel crate-row-back

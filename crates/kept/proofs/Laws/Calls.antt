@@ -1,17 +1,21 @@
 -- Demand 3 over what the calls promise: the file is what the writer left, and the reader's answer is that of its definition.
-use Prim.Native.Nat.{ℕ, _*_}
+use Prim.Native.Nat.{ℕ, _*_, _^_, _<_}
 use mathlib.Core.Bool.{Bool, true, false, _||_, false≢true}
 use mathlib.Core.List.{List, _++_}
+use mathlib.Core.Logic.{⊎-elim}
 use mathlib.Core.Path.{_≡_, refl, sym, ap, subst, _∙_}
-use native.Mathlib.Nat.{pos-of-ne-zero}
+use native.Mathlib.Nat.{pos-of-ne-zero, lt-of-lt-of-le, zero-add}
 use native.Mathlib.Omega.{arith}
-use borrow.Author.Tests.{le-ltb, eq-eqb, ne-eqb, eqb-false, ltb-false}
-use lib.Dec.{ltb}
+use borrow.Author.Tests.{le-ltb, lt-leb, eq-eqb, ne-eqb, eqb-false, ltb-false}
+use lib.Dec.{ltb, lit<, lit≤}
 use lib.Ieee.{Float}
 use lib.ListN.{length, take, drop}
 use lib.Seq.{take-at}
 use Rattle.steps.specs.Answer.{Answer}
 use Rattle.steps.proofs.Laws.Answer.{Passed}
+use Rattle.pixel.specs.declared.Pixel.{Pixel}
+use Rattle.pixel.specs.Rgbe.{peak, tooBright}
+use Rattle.loss.specs.Kept.{Between}
 use Rattle.header.specs.declared.Head.{Head}
 use Rattle.rows_read.specs.Row.{RowRule, crateRow}
 use Rattle.back.proofs.Laws.Row.{RowsBack, crate-row-back}
@@ -20,10 +24,11 @@ use Rattle.reader.specs.Read.{cratePixel, readBy, paperOf, ReadPromiseBy}
 use Rattle.reader.specs.declared.ReadAnswer.{ReadAnswer}
 use Rattle.frames_written.specs.Samples.{firstBright}
 use Rattle.frames_written.specs.Frame.{frameOf, fileOf}
+use Rattle.frames_written.proofs.Laws.Samples.{each-none}
 use Rattle.writer.specs.Write.{frameChecks, brightChecked, stored, writeOf}
 use Rattle.writer.proofs.Laws.Told.{Stored, write-told, write4-told}
-use Rattle.kept.specs.Back.{Sizes, AllInRange, NoOnes, ReadBack, ReadBack4, CallsComeBack, CallsComeBack4, IsWritten}
-use Rattle.kept.proofs.Laws.Back.{PixelsBack, crate-pixels, in-range-passes, read-back-by, read-back4-by}
+use Rattle.kept.specs.Back.{pixel, Sizes, AllInRange, NoOnes, ReadBack, ReadBack4, CallsComeBack, CallsComeBack4, IsWritten}
+use Rattle.kept.proofs.Laws.Back.{PixelsBack, crate-pixels, read-back-by, read-back4-by}
 
 -- ---- The sizes of a frame that was written
 
@@ -68,6 +73,15 @@ pub calls-back4 : (w h : ℕ) (px : List ℕ) → NoOnes px w (w * h) → CallsC
 calls-back4 = calls-back4-by crateRow cratePixel crate-row-back
 
 -- ---- A frame in range is written: no pixel of it is too bright
+
+not-bright : (p : Pixel) → Between (peak p) → tooBright p ≡ false
+unfolding tooBright
+not-bright p b =
+    lt-leb (2 ^ 276) (peak p)
+    (⊎-elim (λ z. subst (λ (v : ℕ). v < 2 ^ 276) (sym z) (lit< tt)) (λ l. lt-of-lt-of-le (l .1) (lit≤ {m = 2 ^ 180} {n = 2 ^ 276} tt)) b)
+
+in-range-passes : (samples : List Float) (n : ℕ) → AllInRange samples n → firstBright samples 0 n ≡ n
+in-range-passes samples n all = each-none samples 0 n (λ k l. rw (zero-add (3 * k)) (not-bright (pixel samples k) (all k l .largest)))
 
 pub in-range-written : (w h : ℕ) (samples : List Float) → Sizes w h → length samples ≡ 3 * (w * h) → AllInRange samples (w * h) → IsWritten w h samples
 unfolding writeOf brightChecked stored

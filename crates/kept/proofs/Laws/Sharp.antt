@@ -2,18 +2,17 @@
 use Prim.Native.Nat.{ℕ, _-_, _<_, _≤_}
 use mathlib.Core.List.{List, [], _∷_}
 use mathlib.Core.Logic.{_⊎_, inl, inr, ⊎-elim}
-use mathlib.Core.Path.{_≡_, refl, subst, _∙_}
+use mathlib.Core.Path.{_≡_, subst, _∙_}
 use native.Mathlib.Omega.{arith}
 use lib.Dec.{lit<, lit≤}
 use lib.Ieee.{Float, nan}
 use Rattle.pixel.specs.declared.Pixel.{Pixel}
 use Rattle.pixel.specs.Units.{mag}
-use Rattle.pixel.specs.Rgbe.{crateUnits, pixelOf, peak, tooBright, bytesOf}
+use Rattle.pixel.specs.Rgbe.{crateUnits, pixelOf, peak, bytesOf}
 use Rattle.loss.specs.Kept.{Kept, Lies, step}
 use Rattle.loss.proofs.Laws.Sharp.{next-dark, too-bright}
 use Rattle.rows_read.specs.Row.{crateRow}
 use Rattle.reader.specs.Read.{cratePixel}
-use Rattle.frames_written.specs.Samples.{firstBright}
 use Rattle.kept.specs.Back.{pixel, Sizes, Enough, ComesBack, nextBelow, firstAbove, oneRed, Lost}
 use Rattle.kept.proofs.Laws.Back.{pixels-back}
 
@@ -40,26 +39,26 @@ enough : Enough 1 1 1 1 lent store
 enough = record { wide = lit≤ tt; high = lit≤ tt; room = lit≤ tt; row = lit≤ tt }
 
 -- a pixel that comes back as another which is not within a step of it
-not-back : (x : Float) (back : Pixel) (n : ℕ) → firstBright (oneRed x) 0 1 ≡ 1 → pixelOf crateUnits (bytesOf (pixel (oneRed x) 0)) ≡ back → Lies (pixel (oneRed x) 0) n → (Kept (step n) x (back .r) → ⊥)
+not-back : (x : Float) (back : Pixel) (n : ℕ) → pixelOf crateUnits (bytesOf (pixel (oneRed x) 0)) ≡ back → Lies (pixel (oneRed x) 0) n → (Kept (step n) x (back .r) → ⊥)
     → ComesBack crateRow cratePixel 1 1 (oneRed x) → ⊥
-not-back x back n none is lies apart all =
-    let there = pixels-back 1 1 (oneRed x) one none [] 1 1 lent store enough 0 (lit< tt) ∙ is in
+not-back x back n is lies apart all =
+    let there = pixels-back 1 1 (oneRed x) one [] 1 1 lent store enough 0 (lit< tt) ∙ is in
     apart (subst (λ (q : Pixel). Kept (step n) x (q .r)) there (all [] 1 1 lent store enough .kept 0 n (lit< tt) lies .r))
 
 next-below : Lost nextBelow
-unfolding peak mag tooBright firstBright
+unfolding peak mag
 next-below = record {
   numbers = record { r = tt; g = tt; b = tt };
   outside = not-between _ _ _ (lit< tt) (inl (lit< tt));
-  lost = not-back nextBelow _ 117 refl next-dark (record { from = lit≤ tt; below = lit< tt }) (λ k. above _ _ (lit< tt) (k .at-most));
+  lost = not-back nextBelow _ 117 next-dark (record { from = lit≤ tt; below = lit< tt }) (λ k. above _ _ (lit< tt) (k .at-most));
 }
 
 first-above : Lost firstAbove
-unfolding peak mag tooBright firstBright
+unfolding peak mag
 first-above = record {
   numbers = record { r = tt; g = tt; b = tt };
   outside = not-between _ _ _ (lit< tt) (inr (lit≤ tt));
-  lost = not-back firstAbove _ 181 refl too-bright (record { from = lit≤ tt; below = lit< tt }) (λ k. far _ _ (lit≤ tt) (k .near));
+  lost = not-back firstAbove _ 181 too-bright (record { from = lit≤ tt; below = lit< tt }) (λ k. far _ _ (lit≤ tt) (k .near));
 }
 
 -- below 2^-32, and from 2^31 on

@@ -1,4 +1,4 @@
--- The four bytes of a pixel that passed check 12: none is over 255; black, or one is at least 128 and the last from 22 to 255; and not 1,1,1. Over any three samples.
+-- The four bytes of a pixel, over any three samples: none is over 255 where check 12 passes; black, or one of three is at least 128 and the last at least 22; and not 1,1,1.
 use mathlib.Core.Bool.{false}
 use mathlib.Core.Path.{_≡_, sym, ap, _∙_, subst}
 use mathlib.Core.Logic.{⊎-elim, inl, inr}
@@ -16,7 +16,7 @@ use Rattle.pixel.specs.declared.Rgbe.{Rgbe}
 use Rattle.pixel.specs.Rgbe.{peak, dark, byteOf, coded, tooBright, bytesOf}
 use Rattle.loss.specs.Written.{Fits, Written, Ones}
 use Rattle.pixel.proofs.Laws.Digits.{size-gt, size-low}
-use Rattle.pixel.proofs.Laws.Bytes.{r-peak, g-peak, b-peak, peak-is, peak-below, coded-bytes, black-bytes, by-step, byte-lt}
+use Rattle.pixel.proofs.Laws.Bytes.{r-peak, g-peak, b-peak, peak-is, coded-bytes, black-bytes, by-step, byte-lt}
 
 -- ---- The last byte
 
@@ -63,18 +63,18 @@ peak-byte n h =
     subst (λ (z : ℕ). 128 ≤ z) (sym (by-step n (size n) h))
     (le-div-iff-mul-le (pow-pos (size n - 8)) .1 (subst (λ (z : ℕ). z ≤ n) (pow-add 2 7 (size n - 8)) (size-reaches n (7 + (size n - 8)) (omega arith))))
 
-coded-written : (p : Pixel) (N : ℕ) → 43 ≤ N → N ≤ 276 → 128 ≤ byteOf N (peak p) → Written (coded N p)
-coded-written p N l h top =
+coded-written : (p : Pixel) (N : ℕ) → 43 ≤ N → 128 ≤ byteOf N (peak p) → Written (coded N p)
+coded-written p N l top =
     let high : (n : ℕ) → peak p ≡ n → 128 ≤ byteOf N n = λ n e. subst (λ (z : ℕ). 128 ≤ byteOf N z) e top in
-    inr (⊎-elim (λ e. inl (high _ e)) (λ w. inr (⊎-elim (λ e. inl (high _ e)) (λ e. inr (high _ e)) w)) (peak-is p), (omega arith, omega arith))
+    inr (⊎-elim (λ e. inl (high _ e)) (λ w. inr (⊎-elim (λ e. inl (high _ e)) (λ e. inr (high _ e)) w)) (peak-is p), omega arith)
 
-pub written-bytes : (p : Pixel) → tooBright p ≡ false → Written (bytesOf p)
-written-bytes p e = ⊎-elim (λ l. subst Written (sym (coded-bytes p l)) (light l)) (λ l. inl (black-bytes p l)) (lt-or-ge dark (peak p))
+pub written-bytes : (p : Pixel) → Written (bytesOf p)
+written-bytes p = ⊎-elim (λ l. subst Written (sym (coded-bytes p l)) (light l)) (λ l. inl (black-bytes p l)) (lt-or-ge dark (peak p))
   where
     light : dark < peak p → Written (coded (size (peak p)) p)
     light l =
         let low = size-low (peak p) l in
-        coded-written p (size (peak p)) low (size-le (peak p) 276 (peak-below p e)) (peak-byte (peak p) (le-trans (lit≤ {m = 8} {n = 43} tt) low))
+        coded-written p (size (peak p)) low (peak-byte (peak p) (le-trans (lit≤ {m = 8} {n = 43} tt) low))
 
 -- ---- No pixel starts 1,1,1: black is 0,0,0, and of any other one byte is at least 128
 
@@ -89,5 +89,5 @@ no-ones q w o =
     high : (x : ℕ) → 128 ≤ x → x ≡ 1 → ⊥
     high x l e = omega arith
 
-pub written-no-ones : (p : Pixel) → tooBright p ≡ false → Ones (bytesOf p) → ⊥
-written-no-ones p e = no-ones (bytesOf p) (written-bytes p e)
+pub written-no-ones : (p : Pixel) → Ones (bytesOf p) → ⊥
+written-no-ones p = no-ones (bytesOf p) (written-bytes p)
