@@ -35,7 +35,8 @@
  *   - +X w -Y h is read row by row, as -Y h +X w is, though by the document it lies column by column.
  *   - Header lines are passed over. EXPOSURE is not applied, and FORMAT is not looked at: samples of a file that
  *     states 32-bit_rle_xyze are X, Y and Z.
- *   - Old runs (pixels 1, 1, 1, n in flat rows) go by zune-hdr's way, which gives other pixels than the document's.
+ *   - A flat row with an old run (a pixel 1, 1, 1, n) is refusal 25: zune-hdr's way with them gives other pixels than the
+ *     document's. Such files wait for a reading by the document.
  *   - The format has no checksum: damage that leaves enough bytes is read as some other picture.
  *
  * THE WRITING. A negative sample and one that is no number are written as 0, and a pixel whose largest sample is not
@@ -82,6 +83,7 @@ enum doorwhisp_refusal {
     DOORWHISP_WRONG_LENGTH = 11, /* writing: the frame has not 3 samples (4 bytes) to a pixel */
     DOORWHISP_TOO_BRIGHT = 12,   /* writing: the pixel that `place` names has a sample of 2^127 or more */
     DOORWHISP_NO_ROOM = 13,      /* writing: the file is longer than the output */
+    DOORWHISP_OLD_RUN = 25,      /* the row that `place` names is flat and has a pixel 1, 1, 1, n */
     DOORWHISP_NONE = 255         /* the two buffer sizes alone: the number passes 2^64 - 1 */
 };
 
@@ -120,6 +122,7 @@ DOORWHISP_HERE const char *doorwhisp_words(uint64_t refusal) {
     case DOORWHISP_WRONG_LENGTH: return "the frame does not have the length that its sizes ask for";
     case DOORWHISP_TOO_BRIGHT: return "this pixel is too bright for the format";
     case DOORWHISP_NO_ROOM: return "the output is too short for the file";
+    case DOORWHISP_OLD_RUN: return "this row has an old run, a pixel 1, 1, 1, n, which is not read";
     case DOORWHISP_NONE: return "the number passes 2^64 - 1";
     default: return "there is no such refusal";
     }
@@ -127,12 +130,13 @@ DOORWHISP_HERE const char *doorwhisp_words(uint64_t refusal) {
 
 /*
  * How many bytes the rows of a picture take at least, for sizes up to 65,535 as doorwhisp_read_header answers them.
- * A file with fewer bytes after its header is refused by 9 in some row, so that no memory need be had for it: that is
- * proved of doorwhisp_read (crates/kept/specs/Least.antt has this definition).
+ * A file with fewer bytes after its header is refused by 9 or 25 in some row, so that no memory need be had for it: that
+ * is proved of doorwhisp_read (crates/kept/specs/Least.antt has this definition). A file with as many bytes asks for
+ * less than 191 times their number for its samples.
  */
 DOORWHISP_HERE uint64_t doorwhisp_least(uint64_t width, uint64_t height) {
-    const uint64_t rows = 4 * (width < 3 ? width : 3) * height;
-    return height > 0 && width >= 8 && width <= 32767 ? rows - 1 : rows;
+    if (width < 8 || width > 32767) return height * (4 * width);
+    return height > 0 ? height * (4 + 8 * ((width + 125) / 127)) - 1 : 0;
 }
 
 /* ---- Reading ---- */
@@ -149,9 +153,9 @@ void doorwhisp_read_header(const uint8_t *bytes, size_t bytes_length, size_t wid
  * Reads a whole file: its samples into the start of `out`, by way of `store`, which holds one row. Answers width,
  * height, and how many bytes the file took; bytes may follow.
  * `out` needs 3 * width * height samples, `store` 4 * width bytes: ask doorwhisp_read_header first.
- * Refusals: 1, 2, 3, 4, 5, 6, 7, 8, 9. Refusal 9 in row k leaves rows 0 to k - 1 in `out` and the rest of it as it
- * was lent; `store` then holds what was read of row k over row k - 1. On success its first 4 * width bytes are the
- * last row, or 0 where there is none.
+ * Refusals: 1, 2, 3, 4, 5, 6, 7, 8; then, in the first row at fault, 9 or 25. These two in row k leave rows 0 to k - 1
+ * in `out` and the rest of it as it was lent; `store` then holds what was read of row k, the pixel 1, 1, 1, n too, over
+ * row k - 1. On success its first 4 * width bytes are the last row, or 0 where there is none.
  */
 void doorwhisp_read(const uint8_t *bytes, size_t bytes_length, size_t widest, size_t highest, float *out,
                     size_t out_length, uint8_t *store, size_t store_length, struct doorwhisp_answer *answer);
@@ -184,7 +188,7 @@ void doorwhisp_worst(size_t width, size_t height, struct doorwhisp_answer *answe
  * enough, and then the length is not counted first.
  * Refusals: 7, 10, 11, 12, 13 (12 not for four-byte pixels); each leaves `out` as it was lent.
  * doorwhisp_write4 writes the pixels as they are given, those that start 1, 1, 1 too: at widths 1 to 7 and over 32,767,
- * where rows are flat, such a pixel is read as an old run, and the picture does not come back. At other widths it does.
+ * where rows are flat, such a file is refused by 25 when it is read. At other widths the picture comes back.
  */
 void doorwhisp_write(size_t width, size_t height, const float *samples, size_t samples_length, uint8_t *out,
                      size_t out_length, struct doorwhisp_answer *answer);

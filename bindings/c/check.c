@@ -31,6 +31,7 @@ static void hold_words(void) {
     int i, k;
     for (i = 0; i <= 14; i++)
         for (k = 0; k < i; k++) hold(strcmp(doorwhisp_words(i), doorwhisp_words(k)) != 0, "words of their own", i);
+    hold(strcmp(doorwhisp_words(DOORWHISP_OLD_RUN), doorwhisp_words(14)) != 0, "words for an old run", 25);
     hold(strcmp(doorwhisp_words(DOORWHISP_NONE), doorwhisp_words(14)) != 0, "words for none", 255);
 }
 
@@ -97,6 +98,25 @@ static void hold_writing(void) {
     hold(answer.refusal == 0 && answer.width == 0 && answer.taken == 143, "a length is in taken", 0);
 }
 
+/* A flat row with a pixel 1, 1, 1, n is refused by 25, with its row; one byte of that pixel less, and it is 9. */
+static void hold_old_runs(void) {
+    static const char file[] = "#?RGBE\n\n-Y 2 +X 1\n\x09\x09\x09\x88\x01\x01\x01\x02";
+    float samples[24] = {0};
+    doorwhisp_answer answer = read_file(file, sizeof file - 1, samples);
+    hold(answer.refusal == DOORWHISP_OLD_RUN && answer.place == 1 && answer.taken == 0, "refusal 25 in row 1", 0);
+    hold(samples[0] == 9.0f && samples[2] == 9.0f && samples[3] == 0.0f, "the row before it", 0);
+    answer = read_file(file, sizeof file - 2, samples);
+    hold(answer.refusal == DOORWHISP_BYTES_END && answer.place == 1, "refusal 9 in row 1", 0);
+}
+
+/* How few bytes the rows take, where the rule changes. */
+static void hold_least(void) {
+    hold(doorwhisp_least(7, 3) == 84 && doorwhisp_least(32768, 1) == 131072, "four to a pixel", 0);
+    hold(doorwhisp_least(8, 2) == 23 && doorwhisp_least(128, 1) == 11, "a mark and four counts", 0);
+    hold(doorwhisp_least(129, 1) == 19 && doorwhisp_least(32767, 1) == 2067, "a count for 127", 0);
+    hold(doorwhisp_least(8, 0) == 0 && doorwhisp_least(0, 9) == 0, "no pixels", 0);
+}
+
 /* 10000 * major + 100 * minor + patch is the number of the version. */
 static void hold_version(void) {
     int major, minor, patch;
@@ -108,6 +128,8 @@ int main(void) {
     hold_words();
     hold_exponents();
     hold_cuts();
+    hold_old_runs();
+    hold_least();
     hold_header();
     hold_writing();
     hold_version();

@@ -35,8 +35,8 @@ static void print_range(const float *samples, size_t count) {
 static int may_hold_rows(const char *name, const doorwhisp_answer *head, size_t length) {
     const uint64_t least = doorwhisp_least(head->width, head->height), found = length - head->taken;
     if (found >= least) return 1;
-    printf("%s: refusal 9: its rows take %lu bytes at least, and %lu follow its header\n", name, (unsigned long)least,
-           (unsigned long)found);
+    printf("%s: refused: rows without old runs take %lu bytes at least, and %lu follow its header\n", name,
+           (unsigned long)least, (unsigned long)found);
     return 0;
 }
 

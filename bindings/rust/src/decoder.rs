@@ -170,19 +170,30 @@ impl<'a> HdrDecoder<'a> {
 
     /// The samples, three to a pixel, row by row from the top.
     ///
-    /// Memory for all of them is asked for first, and where it cannot be had, that is the error; so is
-    /// [`TooFewBytes`](HdrError::TooFewBytes), before any is asked for, where the file cannot hold its rows. A file of
-    /// 800 KB can still say 65,535 by 65,535 and hold it, 51 GB of samples: set limits for files that are not your own.
+    /// Memory for all of them is asked for first, and where it cannot be had, that is the error. Where the file cannot
+    /// hold all its rows, it is asked for those that it may hold and one more, in which it is refused at the latest: so
+    /// it is never more than 191 times the file's length, and a row. A file of 136 MB can hold 32,767 by 65,535
+    /// pixels, 26 GB of samples: set limits for files that are not your own.
     pub fn decode(&mut self) -> Result<Vec<f32>, HdrError> {
         self.decode_headers()?;
         let head = self.read_header()?;
-        let (found, least) = (self.bytes.len() - head.taken, least_bytes(head));
-        if found < least {
-            return Err(HdrError::TooFewBytes { found, least });
+        let most = most_rows(head.width, self.bytes.len() - head.taken);
+        if most < head.height {
+            return Err(self.refusal_within(head, most + 1));
         }
         let mut samples = zeros(3 * head.width * head.height)?;
         self.decode_into(&mut samples)?;
         Ok(samples)
+    }
+
+    /// Why the file is refused within its first rows, which its bytes cannot hold: they are read alone, under a header
+    /// that says so many.
+    fn refusal_within(&self, head: Head, rows: usize) -> HdrError {
+        let mut file = format!("#?RGBE\n\n-Y {rows} +X {}\n", head.width).into_bytes();
+        file.extend_from_slice(&self.bytes[head.taken..]);
+        let read = zeros(3 * head.width * rows)
+            .and_then(|mut samples: Vec<f32>| HdrDecoder::new(&file).decode_into(&mut samples));
+        read.expect_err("fewer bytes than rows take at least hold no picture")
     }
 
     /// Reads the samples into the start of the buffer, and answers how many bytes the file took.
@@ -212,16 +223,17 @@ impl<'a> HdrDecoder<'a> {
                     wanted: 4 * width,
                 },
                 9 => HdrError::BytesEnd { row: place },
+                25 => HdrError::OldRun { row: place },
                 _ => unreachable!("a file with a sound header is not refused by {number}"),
             })
     }
 }
 
-/// How many bytes the rows of a picture take at least, as proved of the reader (`crates/kept/specs/Least.antt`).
-fn least_bytes(head: Head) -> usize {
-    let rows = 4 * head.width.min(3) * head.height;
-    match head.width {
-        8..=32_767 => rows.saturating_sub(1),
-        _ => rows,
+/// How many rows of a width so many bytes may hold, as proved of the reader (`crates/kept/specs/Least.antt`).
+fn most_rows(width: usize, bytes: usize) -> usize {
+    match width {
+        0 => usize::MAX,
+        8..=32_767 => (bytes + 1) / (4 + 8 * ((width + 125) / 127)),
+        _ => bytes / (4 * width),
     }
 }

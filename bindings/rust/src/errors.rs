@@ -5,7 +5,8 @@ use std::{error, fmt, io};
 /// Why a call failed: by a refusal, which has a number, or for want of memory, or at a reader or writer
 /// that was lent. Where the call knows what it found and what it wanted, both are told.
 ///
-/// A failure changes none of the memory that was lent, but for [`BytesEnd`](Self::BytesEnd).
+/// A failure changes none of the memory that was lent, but for [`BytesEnd`](Self::BytesEnd) and
+/// [`OldRun`](Self::OldRun).
 #[derive(Clone, Debug, PartialEq, Eq)]
 #[non_exhaustive]
 pub enum HdrError {
@@ -27,9 +28,6 @@ pub enum HdrError {
     ShortStore { found: usize, wanted: usize },
     /// 9: the file ends within the row. The rows before it are in the output, the rest of the output is as it was lent.
     BytesEnd { row: usize },
-    /// 9 too, told before memory is asked for: the file ends within some row, since fewer bytes follow its header than
-    /// its rows take at least.
-    TooFewBytes { found: usize, least: usize },
     /// 10: the width or the height is over 65,535, which a file cannot be written in.
     OverLimit { width: usize, height: usize },
     /// 11: the frame has not three samples (or four bytes) to a pixel.
@@ -38,6 +36,8 @@ pub enum HdrError {
     TooBright { pixel: usize },
     /// 13: the file is longer than the output.
     NoRoom { found: usize, wanted: usize },
+    /// 25: the row is flat and has an old run, a pixel 1, 1, 1, n. Memory is as after [`BytesEnd`](Self::BytesEnd).
+    OldRun { row: usize },
     /// Memory for so many bytes cannot be had.
     NoMemory { wanted: usize },
     /// The reader or the writer that was lent failed: how, and in its own words.
@@ -45,7 +45,7 @@ pub enum HdrError {
 }
 
 impl HdrError {
-    /// The number of the refusal, 1 to 13, if it is one.
+    /// The number of the refusal, 1 to 13 or 25, if it is one.
     pub fn number(&self) -> Option<u8> {
         Some(match self {
             Self::FirstLine => 1,
@@ -56,11 +56,12 @@ impl HdrError {
             Self::ShortOutput { .. } => 6,
             Self::NoWidth => 7,
             Self::ShortStore { .. } => 8,
-            Self::BytesEnd { .. } | Self::TooFewBytes { .. } => 9,
+            Self::BytesEnd { .. } => 9,
             Self::OverLimit { .. } => 10,
             Self::WrongLength { .. } => 11,
             Self::TooBright { .. } => 12,
             Self::NoRoom { .. } => 13,
+            Self::OldRun { .. } => 25,
             Self::NoMemory { .. } | Self::Io { .. } => return None,
         })
     }
@@ -68,7 +69,7 @@ impl HdrError {
     /// The row or the pixel that is named, from 0, if one is.
     pub fn place(&self) -> Option<usize> {
         match *self {
-            Self::BytesEnd { row } => Some(row),
+            Self::BytesEnd { row } | Self::OldRun { row } => Some(row),
             Self::TooBright { pixel } => Some(pixel),
             _ => None,
         }
@@ -94,12 +95,6 @@ impl fmt::Display for HdrError {
                 write!(f, "a row has {wanted} bytes, the row store {found}")
             }
             Self::BytesEnd { row } => write!(f, "the file ends in row {row}"),
-            Self::TooFewBytes { found, least } => {
-                write!(
-                    f,
-                    "the rows take {least} bytes at least, and {found} follow the header"
-                )
-            }
             Self::OverLimit { width, height } => {
                 write!(
                     f,
@@ -116,6 +111,10 @@ impl fmt::Display for HdrError {
             Self::NoRoom { found, wanted } => {
                 write!(f, "the file has {wanted} bytes, the output {found}")
             }
+            Self::OldRun { row } => write!(
+                f,
+                "row {row} has an old run, a pixel 1, 1, 1, n, which is not read"
+            ),
             Self::NoMemory { wanted } => write!(f, "memory for {wanted} bytes cannot be had"),
             Self::Io { words, .. } => f.write_str(words),
         }

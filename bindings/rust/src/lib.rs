@@ -20,7 +20,8 @@
 //! - `+X w -Y h` is read row by row, as `-Y h +X w` is, though by the document it lies column by column.
 //! - Header lines are passed over. `EXPOSURE` is not applied, and `FORMAT` is not looked at: samples of a file that
 //!   states `32-bit_rle_xyze` are X, Y and Z.
-//! - Old runs (pixels 1, 1, 1, n in flat rows) go by zune-hdr's way, which gives other pixels than the document's.
+//! - A flat row with an old run (a pixel 1, 1, 1, n) is refusal 25: zune-hdr's way with them gives other pixels than
+//!   the document's. Such files wait for a reading by the document.
 //! - The format has no checksum: damage that leaves enough bytes is read as some other picture.
 //!
 //! # What is written

@@ -268,12 +268,12 @@ fn a_frame_of_four_byte_pixels_is_refused_by_number() {
 
 #[test]
 fn four_byte_pixels_that_start_1_1_1_are_written_as_they_are_given() {
-    // in a flat row such a pixel is an old run, and nothing follows it; in a coded row it is a pixel
+    // in a flat row such a pixel is an old run; in a coded row it is a pixel
     let flat = HdrEncoder::new_from_rgbe(&[1, 1, 1, 136], EncoderOptions::new(1, 1));
     let file = flat.encode_to_vec().unwrap();
     assert!(file.ends_with(b"+X 1\n\x01\x01\x01\x88"));
-    let end = HdrDecoder::new(&file).decode();
-    assert_eq!(end, Err(HdrError::BytesEnd { row: 0 }));
+    let told = HdrDecoder::new(&file).decode();
+    assert_eq!(told, Err(HdrError::OldRun { row: 0 }));
     let pixels = [1, 1, 1, 136].repeat(8);
     let coded = HdrEncoder::new_from_rgbe(&pixels, EncoderOptions::new(8, 1));
     let file = coded.encode_to_vec().unwrap();

@@ -1,10 +1,10 @@
-//! How few bytes hold a picture's rows: the shortest are read, and too few are told before memory is asked for.
+//! How few bytes hold a picture's rows: the shortest are read, and a file with fewer is refused as by `decode_into`.
 
 use doorwhisp::{HdrDecoder, HdrError};
 
 /// Widths where the rule changes, and beside them.
-const WIDTHS: [usize; 15] = [
-    1, 2, 3, 4, 7, 8, 9, 126, 127, 128, 129, 300, 32_767, 32_768, 65_535,
+const WIDTHS: [usize; 18] = [
+    1, 2, 3, 7, 8, 9, 126, 127, 128, 129, 254, 255, 256, 300, 32_766, 32_767, 32_768, 65_535,
 ];
 
 /// The header of a picture.
@@ -12,27 +12,26 @@ fn header(width: usize, height: usize) -> Vec<u8> {
     format!("#?RGBE\n\n-Y {height} +X {width}\n").into_bytes()
 }
 
-/// The shortest rows: three old runs end a row of any width, and a coded row may lack the byte of its last count.
+/// The shortest rows: four bytes to a pixel, or runs of 127; of the last count of all the bytes are missing, and it may
+/// then be one of 128 literals.
 fn shortest_rows(width: usize, height: usize) -> Vec<u8> {
-    let row = match width {
-        1 => vec![9, 9, 9, 129],
-        2 => vec![9, 9, 9, 129, 9, 9, 9, 129],
-        _ => [1, 1, 1, 0].repeat(3),
-    };
-    let mut rows = row.repeat(height);
-    if (8..=127).contains(&width) {
-        rows.truncate(row.len() * (height - 1));
-        rows.extend([2, 2, 0, width as u8, 255, 7, 255, 7, 255, 7, 255]);
+    if !(8..=32_767).contains(&width) {
+        return [9, 9, 9, 129].repeat(width * height);
     }
+    let channel = [255, 7].repeat(width.div_ceil(127));
+    let mark = [2, 2, (width / 256) as u8, width as u8];
+    let mut rows = [&mark[..], &channel.repeat(4)].concat().repeat(height);
+    rows.truncate(rows.len() - channel.len());
+    rows.extend([255, 7].repeat((width - 1).div_ceil(127) - 1));
+    rows.push(if width % 127 == 1 { 128 } else { 255 });
     rows
 }
 
-/// How many bytes are wanted. From width 128 on, where a coded row is longer, one is given away.
+/// How many bytes are wanted.
 fn least(width: usize, height: usize) -> usize {
     match width {
-        1 | 2 => 4 * width * height,
-        8..=32_767 => 12 * height - 1,
-        _ => 12 * height,
+        8..=32_767 => height * (4 + 8 * (width - 1).div_ceil(127)) - 1,
+        _ => 4 * width * height,
     }
 }
 
@@ -48,10 +47,11 @@ impl Bytes {
     fn of_length(&mut self, length: usize) -> Vec<u8> {
         let mut bytes = Vec::new();
         while bytes.len() < length {
-            match self.next(4) {
+            match self.next(8) {
                 0 => bytes.extend([1, 1, 1, self.next(256) as u8]),
-                1 => bytes.extend([2, 2, 0, 8]),
-                2 => bytes.extend([255, 128]),
+                1 | 2 => bytes.extend([2, 2, 0, 8]),
+                3 | 4 => bytes.extend([255, 128]),
+                5 => bytes.extend([7, 8, 9, 129]),
                 _ => bytes.push([0, 1, 2, 128, 129, 255][self.next(6)]),
             }
         }
@@ -65,7 +65,8 @@ fn the_shortest_rows_are_read() {
     for width in WIDTHS {
         for height in 1..4 {
             let rows = shortest_rows(width, height);
-            let given_away = usize::from((128..=32_767).contains(&width));
+            let few = (8..=32_767).contains(&width) && width % 127 == 1;
+            let given_away = if few { 8 * height - 2 } else { 0 };
             assert_eq!(rows.len(), least(width, height) + given_away);
             let file = [header(width, height), rows].concat();
             let samples = HdrDecoder::new(&file).decode().unwrap();
@@ -75,35 +76,33 @@ fn the_shortest_rows_are_read() {
 }
 
 #[test]
-fn one_byte_less_is_told_and_no_such_file_is_read() {
+fn fewer_bytes_are_refused_as_where_memory_is_lent() {
     let mut bytes = Bytes(1);
+    let mut numbers = [0; 2];
     for width in WIDTHS {
         for height in 1..4 {
-            let least = least(width, height);
-            let found = least - 1;
             let mut out = vec![0.0; 3 * width * height];
-            for _ in 0..40_000 / width.max(100) {
+            for i in 0..40_000 / width.max(100) {
+                let least = least(width, height);
+                let found = if i == 0 { least - 1 } else { bytes.next(least) };
                 let file = [header(width, height), bytes.of_length(found)].concat();
                 let mut decoder = HdrDecoder::new(&file);
-                let told = decoder.decode();
-                assert_eq!(told, Err(HdrError::TooFewBytes { found, least }));
                 let refusal = decoder.decode_into(&mut out).unwrap_err();
-                assert_eq!(refusal.number(), Some(9));
+                numbers[usize::from(matches!(refusal, HdrError::OldRun { .. }))] += 1;
+                assert!(matches!(refusal.number(), Some(9 | 25)));
+                assert_eq!(decoder.decode(), Err(refusal));
             }
         }
     }
-}
-
-#[test]
-fn a_few_bytes_that_say_an_immense_picture_ask_for_no_memory() {
-    let file = [header(65_535, 65_535), vec![9; 5]].concat();
-    let (found, least) = (5, 786_420);
-    let told = HdrDecoder::new(&file).decode();
-    assert_eq!(told, Err(HdrError::TooFewBytes { found, least }));
+    assert!(numbers.iter().all(|n| *n > 100), "{numbers:?} of 9 and 25");
 }
 
 #[test]
 fn no_rows_take_no_bytes() {
     let file = header(20, 0);
     assert_eq!(HdrDecoder::new(&file).decode(), Ok(vec![]));
+    assert_eq!(
+        HdrDecoder::new(header(0, 3)).decode(),
+        Err(HdrError::NoWidth)
+    );
 }

@@ -1,3 +1,2 @@
--- The laws of the definitions in `specs/`, a file for each of its files.
-pub mod Repeat
+-- The laws of the definitions in `specs/`.
 pub mod Flat

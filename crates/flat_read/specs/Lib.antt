@@ -1,4 +1,2 @@
 -- What a reader has to believe of a flat part of a row.
-pub mod Repeat
 pub mod Flat
-pub mod Inner

@@ -24,4 +24,5 @@ pub mod RadianceComponent
 pub mod RadianceRows
 pub mod RadianceFlat
 pub mod RadianceWritten
+pub mod RadianceShown
 pub mod RadianceApart

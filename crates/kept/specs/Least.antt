@@ -1,8 +1,22 @@
 -- How few bytes hold the rows of a picture.
-use Prim.Native.Nat.{ℕ, _*_, _-_, min}
+use Prim.Native.Nat.{ℕ, _+_, _*_, _-_, _/_, _<_}
+use mathlib.Core.List.{List}
+use lib.ListN.{getD}
 use Rattle.steps.specs.Loop.{pick}
 use Rattle.rows_read.specs.Row.{isFlatWidth}
 
--- four for each of the first three pixels of a row; where rows may be coded, the last of them may lack one
+-- each of them is a byte
+abbrev pub AreBytes : List ℕ → Type 0
+AreBytes bytes = (i : ℕ) → getD bytes i 0 < 256
+
+-- how many counts the bytes of a channel take: one is for at most 127, but for the last of all, whose bytes may be missing: it is for at most 128
+abbrev pub countsOf : ℕ → ℕ
+countsOf width = (width + 125) / 127
+
+-- a coded row: the mark, and for each of these counts in each channel the count and a byte
+abbrev pub codedLeast : ℕ → ℕ
+codedLeast width = 4 + 8 * countsOf width
+
+-- four bytes for each pixel of a flat row; where rows may be coded, the last of them may lack one
 abbrev pub leastOf : ℕ → ℕ → ℕ
-leastOf width height = pick (isFlatWidth width) (height * (4 * min width 3)) (height * 12 - 1)
+leastOf width height = pick (isFlatWidth width) (height * (4 * width)) (height * codedLeast width - 1)

@@ -92,6 +92,6 @@ shown =
     ∷ writes (pixel (part 0x83126f 31) (part 0x83126f 31) (part 0x83126f 31)) (Bytes (rgbe 131 131 131 121))
     ∷ reads (file [] (rows (digit 1) (digit 1)) ++ (1 ∷ 1 ∷ 1 ∷ 128 ∷ []))
     (replicate 3 (whole 1 1)) (replicate 4 7)
-    (refused 9 0)
+    (refused 25 0)
     (replicate 3 (whole 1 1)) (1 ∷ 1 ∷ 1 ∷ 128 ∷ [])
     ∷ []

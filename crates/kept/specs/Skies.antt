@@ -6,7 +6,7 @@ use Prim.Native.Nat.{ℕ, _+_, _-_}
 use lib.ListN.{replicate}
 use lib.IntN.{pos, negsuc}
 use lib.Ieee.{Float, nan, fin, round, binary32}
-use Rattle.steps.specs.Answer.{Answer, done, refuse}
+use Rattle.steps.specs.Answer.{Answer, done, refused, refuse}
 use Rattle.pixel.specs.declared.Pixel.{Pixel}
 use Rattle.pixel.specs.declared.Rgbe.{Rgbe}
 use Rattle.pixel.specs.declared.Packed.{Packed}
@@ -92,12 +92,11 @@ skies =
     ∷ document-reads (rgbe 128 0 0 96) (pixel (part 1 33) none none)
     ∷ document-reads (rgbe 128 0 0 160) (pixel (whole 1 31) none none)
     ∷ crate-reads (rgbe 255 255 255 0) (pixel none none none)
-    -- 5: width 4, one row with an old run
+    -- 5: width 4, one row with an old run: refused in row 0
     ∷ reads (small 1 4 ++ oldRun)
     (replicate 12 (whole 1 0)) (replicate 16 7)
-    (done (head 4 1 30))
-    (part 5 6 ∷ part 5 6 ∷ part 5 6 ∷ part 5 5 ∷ part 5 5 ∷ part 5 5 ∷ part 1 38 ∷ part 1 38 ∷ part 1 38 ∷ none ∷ none ∷ none ∷ [])
-    (oldRun ++ replicate 4 0)
+    (refused 25 0)
+    (replicate 12 (whole 1 0)) (oldRun ++ replicate 4 0)
     -- 6: channels
     ∷ codes (5 ∷ 5 ∷ 9 ∷ 9 ∷ 9 ∷ 9 ∷ 9 ∷ 9 ∷ []) (130 ∷ 5 ∷ 134 ∷ 9 ∷ [])
     ∷ codes (5 ∷ 5 ∷ 6 ∷ 9 ∷ 9 ∷ 9 ∷ 9 ∷ 9 ∷ []) (3 ∷ 5 ∷ 5 ∷ 6 ∷ 133 ∷ 9 ∷ [])

@@ -2,6 +2,8 @@
 use Prim.Native.Nat.{ℕ, _+_, _-_, min}
 use mathlib.Core.List.{List}
 use mathlib.Core.Bool.{Bool, not, _&&_}
+use mathlib.Core.Logic.{_⊎_}
+use mathlib.Core.Path.{_≡_}
 use lib.ListN.{length, getD, set}
 use lib.Dec.{ltb, leb, eqb}
 use Rattle.steps.specs.Loop.{pick}
@@ -82,3 +84,7 @@ crateParts = record { start = crateStart; flat = flatOf crateFlat; channels = ch
 
 unfoldable pub crateRow : RowRule
 crateRow = rowBy crateParts
+
+-- the numbers by which it refuses a row: 9, and 25 at a pixel 1,1,1,n of a flat part
+abbrev pub CrateFault : ℕ → Type 0
+CrateFault number = (number ≡ 9) ⊎ (number ≡ 25)

@@ -27,7 +27,6 @@ Ended outcome.TooLarge = Unit {0}
 Ended outcome.LongHeader = Unit {0}
 Ended (outcome.LongRow row) = Unit {0}
 Ended (outcome.Unreadable error) = Unit {0}
-Ended (outcome.OldRun row) = Unit {0}
 Ended outcome.Unwritten = Unit {0}
 
 -- a row leaves the window at the next one

@@ -11,29 +11,18 @@ use header::Head;
 ghost use Prim.Native.Nat.{_≤_};
 ghost use Rattle.sky.specs.Inner.{Held, Ended};
 
-// Whether a row of the store cannot be written so that it is read as it is: a flat one with a pixel that starts 1, 1, 1.
-fn is_old_run(store: &[u8; 262140], width: usize) -> bool
-    requires { ⌜ width ≤ 65535 ⌝ }
-{
-    if steps::is_coded(width) {
-        return false;
-    }
-    survey::repeat::any_repeat(store, width)
-}
-
 // How the rows end, and what was written.
 pub(crate) struct Copied {
     pub outcome: Outcome,
     pub pen: Pen,
 }
 
-// Writes the row k, which is in the store; the window stands behind it.
+// Writes the row that is in the store; the window stands behind it.
 fn write_row(
     to: i32,
     store: &[u8; 262140],
     room: &mut [u8; 524288],
     width: usize,
-    k: usize,
     view: View,
     last: Pen,
 ) -> Copied
@@ -42,10 +31,6 @@ fn write_row(
     ensures { λ r. ⌜ Ended (r .outcome) ⌝ }
     ensures { λ r. ⌜ r .pen .put ≤ 262144 ⌝ }
 {
-    if is_old_run(store, width) {
-        let outcome = Outcome::OldRun { row: k };
-        return Copied { outcome, pen: last };
-    }
     let pen = pen::put_row(to, store, width, room, last);
     if pen.failed {
         let outcome = Outcome::Unwritten;
@@ -74,7 +59,7 @@ fn copy_row(
 {
     let step = file::next_row(fd, bytes, store, width, k, view);
     match step {
-        Step::Row(next) => write_row(to, store, room, width, k, next, pen),
+        Step::Row(next) => write_row(to, store, room, width, next, pen),
         Step::Ended(outcome) => Copied { outcome, pen },
     }
 }

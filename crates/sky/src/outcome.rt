@@ -14,7 +14,6 @@ pub(crate) enum Outcome {
     LongHeader,
     LongRow { row: usize },
     Unreadable { error: i32 },
-    OldRun { row: usize },
     Unwritten,
 }
 
@@ -34,6 +33,9 @@ fn sentence(number: u8) {
         refusal::BYTES_END => say::text(
             b"the file ends before the picture does: it was cut off, or not copied whole",
         ),
+        refusal::OLD_RUN => say::text(
+            b"an old run, a pixel 1, 1, 1, n that asks for copies of the one before it, is not read",
+        ),
         _ => say::text(b"the file cannot be read"),
     }
 }
@@ -46,7 +48,11 @@ fn say_number(number: u8) {
 
 // Whether a refusal names a row.
 fn names_row(number: u8) -> bool {
-    number == refusal::BYTES_END
+    match number {
+        refusal::BYTES_END => true,
+        refusal::OLD_RUN => true,
+        _ => false,
+    }
 }
 
 // The number of a refusal, the row where it names one, and the sentence.
@@ -99,12 +105,6 @@ pub(crate) fn say_outcome(outcome: Outcome) {
         Outcome::Unreadable { error } => {
             say::text(b"  refused          the file cannot be read: ");
             name::say_reason(error);
-        }
-        Outcome::OldRun { row } => {
-            say_row(b"  refused          row ", row);
-            say::text(
-                b" has a pixel that starts 1, 1, 1: at this width it would be read as a repeat\n",
-            );
         }
         Outcome::Unwritten => {
             say::text(b"  refused          writing failed: the disk may be full\n")

@@ -31,3 +31,5 @@ pub const WRONG_LENGTH: u8 = 11;
 pub const TOO_BRIGHT: u8 = 12;
 
 pub const NO_ROOM: u8 = 13;
+
+pub const OLD_RUN: u8 = 25;

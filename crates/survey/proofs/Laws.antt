@@ -1,4 +1,3 @@
 -- The laws of the definitions in `specs/`, a file for each of its files.
 pub mod Survey
-pub mod Repeat
 pub mod Stops

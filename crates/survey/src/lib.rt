@@ -1,5 +1,4 @@
 // What is asked of a row's four-byte pixels: how many are black, how many show light at another brightness than the document, and which are the darkest and the brightest.
-pub mod repeat;
 pub mod stops;
 
 use pixel::Rgbe;

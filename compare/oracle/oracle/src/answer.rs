@@ -1,17 +1,20 @@
 //! The crate's answer to a replay line.
 
 use crate::line::{self, NOT_COMPARABLE, UNKNOWN};
+use crate::old_run::{self, OldRun};
 use crate::pixel::by_documents;
-use crate_side::{Head, Read, Reading, Written, UNWRITTEN};
+use crate_side::{Head, Read, Written, UNWRITTEN};
 
-/// An answer line, and what the stand-in did at the end of the bytes.
+/// An answer line, what the stand-in did at the end of the bytes, and whether an old run was met, which is outside the domain.
 pub struct Answer {
     pub line: String,
     pub at_end: crate_side::AtEnd,
+    pub old_run: bool,
 }
 
-fn plain(line: impl Into<String>) -> Answer {
-    Answer { line: line.into(), at_end: Default::default() }
+/// An answer of which nothing more is to be said.
+pub fn plain(line: impl Into<String>) -> Answer {
+    Answer { line: line.into(), at_end: Default::default(), old_run: false }
 }
 
 fn refusal(number: u32, place: usize, fields: &str) -> String {
@@ -20,6 +23,7 @@ fn refusal(number: u32, place: usize, fields: &str) -> String {
 
 const PANICKED: &str = "! the crate panicked";
 const TORN: &str = "! the crate's output is not whole rows";
+const ELSEWHERE: &str = "! the crate does not read the pixel 1,1,1,n there";
 const LIMIT: usize = 65_535;
 
 /// Answers one line as the crate does.
@@ -52,32 +56,56 @@ fn parsed(fields: &[&str]) -> Option<Answer> {
     }
 }
 
+/// A file that has a pixel 1,1,1,n in a flat part is refused there by 25 (RULES 4.11), which the crate does not know. It is asked
+/// with the part that ends before the fourth byte: its 9 is then our 25.
 fn read(max_width: usize, max_height: usize, length: usize, store: usize, bytes: &[u8]) -> Answer {
     if max_width > LIMIT || max_height > LIMIT || length > 10_000_000 {
         return plain(NOT_COMPARABLE);
     }
-    let reading = crate_side::read(max_width, max_height, length, bytes);
+    let old_run = match crate_side::head(max_width, max_height, bytes) {
+        (Head::Sizes { width, height }, taken, _) => old_run::first(bytes, taken, width, height),
+        _ => None,
+    };
+    let part = old_run.as_ref().map_or(bytes, |run| &bytes[..run.at + 3]);
+    let mut reading = crate_side::read(max_width, max_height, length, part);
     let short_store = reading.store.as_ref().is_some_and(|s| s.len() > store);
     if reading.wide_fields || short_store {
         return plain(NOT_COMPARABLE);
     }
-    let mut text = match reading.answer {
-        Read::Panicked => return plain(PANICKED),
-        Read::Torn => return plain(TORN),
-        Read::Refused { number, row } => refusal(number, row, " 0 0 0 "),
-        Read::Sizes { width, height } => format!("0 0 {width} {height} {} ", reading.taken),
+    let mut text = match (reading.answer, &old_run) {
+        (Read::Panicked, _) => return plain(PANICKED),
+        (Read::Torn, _) => return plain(TORN),
+        (Read::Refused { number: 9, row }, Some(run)) => {
+            if !fourth_byte_stored(reading.store.as_mut(), row, run, bytes) {
+                return plain(ELSEWHERE);
+            }
+            refusal(25, row, " 0 0 0 ")
+        }
+        (Read::Refused { number, row }, _) => refusal(number, row, " 0 0 0 "),
+        (Read::Sizes { .. }, Some(_)) => return plain(ELSEWHERE),
+        (Read::Sizes { width, height }, None) => format!("0 0 {width} {height} {} ", reading.taken),
     };
-    push_buffers(&mut text, &reading, store);
-    Answer { line: text, at_end: reading.at_end }
+    push_buffers(&mut text, &reading.output, reading.store.as_deref(), store);
+    let at_end = if old_run.is_some() { Default::default() } else { reading.at_end };
+    Answer { line: text, at_end, old_run: old_run.is_some() }
+}
+
+/// RULES 4.11: the fourth byte stands in the store behind the 1,1,1 that the crate, which misses it, has put there in this row.
+fn fourth_byte_stored(store: Option<&mut Vec<u8>>, row: usize, run: &OldRun, bytes: &[u8]) -> bool {
+    match store.and_then(|s| s.get_mut(run.place..run.place + 4)) {
+        Some([1, 1, 1, fourth]) if row == run.row => *fourth = bytes[run.at + 3],
+        _ => return false,
+    }
+    true
 }
 
 /// Output and row store: what the crate wrote, and the lent pattern elsewhere.
-fn push_buffers(text: &mut String, reading: &Reading, store: usize) {
-    let output = reading.output.iter().enumerate();
+fn push_buffers(text: &mut String, output: &[u32], kept: Option<&[u8]>, store: usize) {
+    let output = output.iter().enumerate();
     line::push_samples(text, output.map(|(i, s)| if *s == UNWRITTEN { line::lent_sample(i) } else { *s }));
     text.push(' ');
     let mut bytes = line::lent_bytes(store);
-    if let Some(kept) = &reading.store {
+    if let Some(kept) = kept {
         bytes[..kept.len()].copy_from_slice(kept);
     }
     line::push_bytes(text, &bytes);

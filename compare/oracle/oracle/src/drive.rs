@@ -1,6 +1,6 @@
 //! Feeds the same lines to the crate and to a program, and counts the answers that differ.
 
-use crate::answer::{answer, written};
+use crate::answer::{answer, plain, written};
 use crate::cases::{self, Case, Judge};
 use crate::line::NOT_COMPARABLE;
 use crate_side::AtEnd;
@@ -17,6 +17,7 @@ struct Waiting {
     line: String,
     expected: String,
     at_end: AtEnd,
+    old_run: bool,
 }
 
 /// One row of the table.
@@ -24,6 +25,8 @@ struct Waiting {
 struct Count {
     lines: usize,
     skipped: usize,
+    /// An old run was met: refused by 25, and outside the domain.
+    old_run: usize,
     /// A byte was asked for past the last one.
     at_end: usize,
     /// The stand-in answered one such asking with 0.
@@ -75,15 +78,12 @@ fn panic_with(words: &str) -> ! {
 
 /// The case's answer by its judge.
 fn expected(case: Case) -> Waiting {
-    let (expected, at_end) = match case.judge {
-        Judge::Crate => {
-            let answer = answer(&case.line);
-            (answer.line, answer.at_end)
-        }
-        Judge::CrateSamples { width, height, room, samples } => (written(width, height, room, &samples).line, AtEnd::default()),
-        Judge::Document(line) => (line, AtEnd::default()),
+    let answer = match case.judge {
+        Judge::Crate => answer(&case.line),
+        Judge::CrateSamples { width, height, room, samples } => written(width, height, room, &samples),
+        Judge::Document(line) => plain(line),
     };
-    Waiting { kind: case.kind, line: case.line, expected, at_end }
+    Waiting { kind: case.kind, line: case.line, expected: answer.line, at_end: answer.at_end, old_run: answer.old_run }
 }
 
 /// The sample skies: a line, then its answer by RULES 11. The crate is held to it where it can be asked.
@@ -96,7 +96,7 @@ fn sample_skies(path: &str, feed: &mut dyn FnMut(Waiting) -> bool) -> bool {
             panic_with(&format!("the crate's answer to {} is {own}, and {path} has {}", pair[0], pair[1]));
         }
         let (line, expected) = (pair[0].to_string(), pair[1].to_string());
-        feed(Waiting { kind: "sample skies", line, expected, at_end: AtEnd::default() })
+        feed(Waiting { kind: "sample skies", line, expected, at_end: AtEnd::default(), old_run: false })
     })
 }
 
@@ -135,6 +135,7 @@ fn hold(receive: Receiver<Waiting>, mut answers: impl BufRead, path: &str) -> (V
         if waiting.expected == NOT_COMPARABLE {
             count.skipped += 1;
         } else {
+            count.old_run += waiting.old_run as usize;
             count.at_end += (waiting.at_end != AtEnd::default()) as usize;
             count.made_up += (waiting.at_end.made_up > 0) as usize;
             if text != waiting.expected.as_bytes() {
@@ -193,13 +194,14 @@ impl Progress {
 
 fn print_table(seed: u64, count: u64, table: &[(&str, Count)]) {
     println!("seed {seed}, count {count}\n");
-    println!("| kind of case | lines | compared | skipped | end met | byte made up | differences |");
-    println!("|---|---|---|---|---|---|---|");
+    println!("| kind of case | lines | compared | skipped | old run met | end met | byte made up | differences |");
+    println!("|---|---|---|---|---|---|---|---|");
     let mut sum = Count::default();
     for (kind, c) in table {
         print_row(kind, c);
         sum.lines += c.lines;
         sum.skipped += c.skipped;
+        sum.old_run += c.old_run;
         sum.at_end += c.at_end;
         sum.made_up += c.made_up;
         sum.differences += c.differences;
@@ -209,5 +211,6 @@ fn print_table(seed: u64, count: u64, table: &[(&str, Count)]) {
 
 fn print_row(kind: &str, c: &Count) {
     let compared = c.lines - c.skipped;
-    println!("| {kind} | {} | {compared} | {} | {} | {} | {} |", c.lines, c.skipped, c.at_end, c.made_up, c.differences);
+    let Count { lines, skipped, old_run, at_end, made_up, differences } = c;
+    println!("| {kind} | {lines} | {compared} | {skipped} | {old_run} | {at_end} | {made_up} | {differences} |");
 }

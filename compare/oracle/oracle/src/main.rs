@@ -5,6 +5,7 @@ mod cases;
 mod convert;
 mod drive;
 mod line;
+mod old_run;
 mod pixel;
 mod random;
 mod writer_cases;

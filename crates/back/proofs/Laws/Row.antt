@@ -15,7 +15,7 @@ use Rattle.steps.specs.declared.Taken.{Taken}
 use Rattle.steps.specs.declared.Taken.the-variants.{Done}
 use Rattle.flat_read.specs.Flat.{FlatRule, isRepeat, flat, crateFlat, flatOf, flatOut, flatTurn, fourTo}
 use Rattle.rows_read.specs.Row as read
-use Rattle.flat_read.proofs.Laws.Flat.{flat-starts, flat-done, flat-ordinary}
+use Rattle.flat_read.proofs.Laws.Flat.{NoRepeat, four-there, flat-starts, flat-done, flat-ordinary}
 use Rattle.channels_read.specs.Channel.{CountRule, crateCount}
 use Rattle.channels_read.specs.Channels.{chans, chansOut, chansTurn, channelsOf}
 use Rattle.channels_read.proofs.Laws.Channel.{TakesWhole, crate-whole}
@@ -121,10 +121,6 @@ module _ (parts : read.RowParts) (reading : Reading parts) where
 
 -- ---- a flat row
 
--- no pixel of the row starts 1, 1, 1
-abbrev pub NoRepeat : List ℕ → ℕ → ℕ → Type 0
-NoRepeat px p w = (i : ℕ) → i < w → isRepeat px (p + 4 * i) ≡ false
-
 -- the same four bytes are the same kind of pixel
 same-repeat : (src px : List ℕ) (at p : ℕ) → bytesFrom src at 4 ≡ bytesFrom px p 4 → isRepeat src at ≡ isRepeat px p
 unfolding isRepeat bytesFrom
@@ -135,20 +131,13 @@ same-repeat src px at p e =
     let b2 : getD src (at + 1 + 1) 0 ≡ getD px (p + 1 + 1) 0 = ap (λ (l : List ℕ). getD l 2 0) e in
     rw (two at, two p, b0, b1, b2)
 
--- a pixel whose four bytes are there
-four-there : (src : List ℕ) (at : ℕ) (store : List ℕ) (place : ℕ) → at + 4 ≤ length src → fourTo src at store place ≡ spread 1 store place (bytesFrom src at 4)
-unfolding fourTo
-four-there src at store place h =
-    let m : min 4 (length src - at) ≡ 4 = omega arith in
-    rw m
-
 -- where such pixels stand, a flat part takes just them, one after another
-pub flat-there : (rule : FlatRule) (px src : List ℕ) (p n start at place : ℕ) (store rest : List ℕ) (a : Taken × List ℕ) → drop at src ≡ bytesFrom px p (4 * n) ++ rest → NoRepeat px p n
-    → Runs (flatTurn rule src start) flatOut (length src - at) (flat at place n 0 store) a → (Done (at + 4 * n), spread 1 store place (bytesFrom px p (4 * n))) ≡ a
+pub flat-there : (rule : FlatRule) (px src : List ℕ) (p n at place : ℕ) (store rest : List ℕ) (a : Taken × List ℕ) → drop at src ≡ bytesFrom px p (4 * n) ++ rest → NoRepeat px p n
+    → Runs (flatTurn rule src) flatOut (length src - at) (flat at place n store) a → (Done (at + 4 * n), spread 1 store place (bytesFrom px p (4 * n))) ≡ a
 unfolding spread bytesFrom
-flat-there rule px src p zero start at place store rest a e none r =
-    ap (λ (i : ℕ). (Done i, store)) (omega arith) ∙ flat-done rule src start at place 0 0 store a r (omega arith)
-flat-there rule px src p (suc n) start at place store rest a e none r =
+flat-there rule px src p zero at place store rest a e none r =
+    ap (λ (i : ℕ). (Done i, store)) (omega arith) ∙ flat-done rule src at place 0 store a r (omega arith)
+flat-there rule px src p (suc n) at place store rest a e none r =
     let pixel : List ℕ = bytesFrom px p 4 in
     let others : List ℕ = bytesFrom px (p + 4) (4 * n) in
     let here : drop at src ≡ pixel ++ (others ++ rest) = e ∙ ap (λ (l : List ℕ). l ++ rest) (bytes-four px p n) ∙ append-assoc pixel others rest in
@@ -161,13 +150,13 @@ flat-there rule px src p (suc n) start at place store rest a e none r =
     let shifted : (i : ℕ) → p + 4 * suc i ≡ p + 4 + 4 * i = λ i. omega arith in
     let later : NoRepeat px (p + 4) n = λ i h. ap (isRepeat px) (sym (shifted i)) ∙ none (suc i) (omega arith) in
     let filled : fourTo src at store place ≡ spread 1 store place (bytesFrom src at 4) = four-there src at store place room in
-    let turned = flat-ordinary rule src start at place (suc n) 0 store a r (omega arith) (omega arith) _ room ordinary (ap (λ (s : List ℕ). flat (at + 4) (place + 4) (suc n - 1) 0 s) (sym filled)) in
+    let turned = flat-ordinary rule src at place (suc n) store a r (omega arith) _ room ordinary (ap (λ (s : List ℕ). flat (at + 4) (place + 4) (suc n - 1) s) (sym filled)) in
     let ends : at + 4 * suc n ≡ at + 4 + 4 * n = omega arith in
     let stored : spread 1 store place (bytesFrom px p (4 * suc n)) ≡ spread 1 (spread 1 store place (bytesFrom src at 4)) (place + 4) others =
     ap (spread 1 store place) (bytes-four px p n) ∙ spread-append 1 store place pixel others ∙ ap (λ (l : List ℕ). spread 1 (spread 1 store place l) (place + 4) others) (sym same) in
     ap (λ (i : ℕ). (Done i, spread 1 store place (bytesFrom px p (4 * suc n)))) ends
     ∙ ap (λ (l : List ℕ). (Done (at + 4 + 4 * n), l)) stored
-    ∙ flat-there rule px src (p + 4) n start (at + 4) (place + 4) _ rest a after later (rw left at turned)
+    ∙ flat-there rule px src (p + 4) n (at + 4) (place + 4) _ rest a after later (rw left at turned)
 
 -- ---- either row
 
@@ -197,7 +186,7 @@ row-back parts reading px pre rest store p w none = go (isCoded w) refl
         ∙ ap (λ (l : List ℕ). (Done (length pre + length l), spread 1 store 0 (bytesFrom px p (4 * w)))) (sym (row-coded px p w t))
     go false t =
         let a = flatOf (reading .flats) src (length pre) store 0 w in
-        let flat-row = flat-there (reading .flats) px src p w 0 (length pre) 0 store rest a (here ∙ ap (λ (l : List ℕ). l ++ rest) (row-flat px p w t)) (none t) (flat-starts (reading .flats) src (length pre) store 0 w) in
+        let flat-row = flat-there (reading .flats) px src p w (length pre) 0 store rest a (here ∙ ap (λ (l : List ℕ). l ++ rest) (row-flat px p w t)) (none t) (flat-starts (reading .flats) src (length pre) store 0 w) in
         sym (by-width parts src (length pre) store w true (is-flat w t) refl)
         ∙ reading .flat src (length pre) store 0 w
         ∙ sym flat-row

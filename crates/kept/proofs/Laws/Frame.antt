@@ -21,7 +21,8 @@ use Rattle.flat_read.specs.Flat.{isRepeat}
 use Rattle.rows_read.specs.Row.{RowRule}
 use Rattle.rows_written.specs.Row.{writtenRow}
 use Rattle.steps.specs.Width.{isCoded}
-use Rattle.back.proofs.Laws.Row.{NoRepeat, RowsBack}
+use Rattle.flat_read.proofs.Laws.Flat.{NoRepeat}
+use Rattle.back.proofs.Laws.Row.{RowsBack}
 use Rattle.reader.specs.Samples.{SampleRule}
 use Rattle.reader.specs.Frame as reader
 use Rattle.reader.specs.Inner.{samplesFrom}

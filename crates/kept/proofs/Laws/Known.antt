@@ -1,7 +1,8 @@
--- Every refusal has a number of the table, over what the calls promise: 1 to 9 where a file is read, 7 to 13 where one is written.
+-- Every refusal has a number of the table, over what the calls promise: 1 to 9 and 25 where a file is read, 7 to 13 where one is written.
 use Prim.{Unit}
 use Prim.Native.Nat.{ℕ, _*_, _≤_}
 use mathlib.Core.List.{List, [], _∷_, _++_}
+use mathlib.Core.Logic.{_⊎_, inl, inr}
 use mathlib.Core.Path.{_≡_, refl, sym, subst}
 use lib.Dec.{ltb, lit≤}
 use lib.Ieee.{Float}
@@ -14,7 +15,7 @@ use Rattle.steps.proofs.Laws.Turns.{by-test}
 use Rattle.header.specs.declared.Head.{Head}
 use Rattle.header.specs.Head.{headChecks, fieldsOf, headOf, headerOf, HeaderPromise}
 use Rattle.header.specs.declared.HeadAnswer.the-variants as header
-use Rattle.rows_read.specs.Row.{crateRow}
+use Rattle.rows_read.specs.Row.{crateRow, CrateFault}
 use Rattle.reader.specs.Frame.{storedOf, cleared, rowsOf}
 use Rattle.reader.specs.Read.{frameChecks, cratePixel, answerOf, framed, readBy, ReadPromise}
 use Rattle.reader.specs.declared.ReadAnswer.the-variants as read
@@ -29,24 +30,28 @@ use Rattle.writer.specs.declared.WriteAnswer.the-variants as write
 abbrev pub Within : ℕ → ℕ → ℕ → Type 0
 Within low high n = (low ≤ n) × (n ≤ high)
 
-module _ (low high : ℕ) where
-  -- so are the numbers of all checks
-  abbrev AllWithin : List Check → Type 0
-  AllWithin [] = Unit {0}
-  AllWithin (check n t ∷ checks) = Within low high n × AllWithin checks
+-- one of those where a file is read
+abbrev pub ReadNumber : ℕ → Type 0
+ReadNumber n = Within 1 8 n ⊎ CrateFault n
+
+module _ (N : ℕ → Type 0) where
+  -- the numbers of all checks are among those
+  abbrev AllKnown : List Check → Type 0
+  AllKnown [] = Unit {0}
+  AllKnown (check n t ∷ checks) = N n × AllKnown checks
 
   -- so is that of a refusal
   abbrev Known : {A : Type 0} → Answer A → Type 0
-  Known a = (n k : ℕ) → a ≡ refused n k → Within low high n
+  Known a = (n k : ℕ) → a ≡ refused n k → N n
 
   known-done : {A : Type 0} (a : A) → Known (done a)
   known-done a n k e = absurd (differ a n k e)
 
-  known-refused : {A : Type 0} (m j : ℕ) → Within low high m → Known {A = A} (refused m j)
-  known-refused m j h n k e = let same : m ≡ n = cc in subst (Within low high) same h
+  known-refused : {A : Type 0} (m j : ℕ) → N m → Known {A = A} (refused m j)
+  known-refused m j h n k e = let same : m ≡ n = cc in subst N same h
 
   -- an answer that comes from the checks or from the rest, with whatever it leaves
-  known-checked : {A B : Type 0} (answer : B → Answer A) (f : ℕ → B) (checks : List Check) (rest : B) → AllWithin checks → ((n : ℕ) → answer (f n) ≡ refuse n) → Known (answer rest)
+  known-checked : {A B : Type 0} (answer : B → Answer A) (f : ℕ → B) (checks : List Check) (rest : B) → AllKnown checks → ((n : ℕ) → answer (f n) ≡ refuse n) → Known (answer rest)
       → Known (answer (checked f checks rest))
   known-checked answer f [] rest all is passes = passes
   known-checked answer f (check n t ∷ checks) rest all is passes =
@@ -57,24 +62,24 @@ module _ (low high : ℕ) where
 pub header-known : (bytes : List ℕ) (widest highest : ℕ) (refusal : Refusal) → HeaderPromise bytes widest highest (header.Refused refusal) → Within 1 5 (refusal .number)
 unfolding headerOf headChecks
 header-known bytes widest highest refusal promise =
-    subst (Known 1 5) (sym promise)
-    (known-checked 1 5 (λ a. a) refuse (headChecks bytes widest highest) (done (headOf (fieldsOf bytes)))
-    ((lit≤ tt, lit≤ tt), ((lit≤ tt, lit≤ tt), ((lit≤ tt, lit≤ tt), ((lit≤ tt, lit≤ tt), ((lit≤ tt, lit≤ tt), tt))))) (λ n. refl) (known-done 1 5 (headOf (fieldsOf bytes))))
+    subst (Known (Within 1 5)) (sym promise)
+    (known-checked (Within 1 5) (λ a. a) refuse (headChecks bytes widest highest) (done (headOf (fieldsOf bytes)))
+    ((lit≤ tt, lit≤ tt), ((lit≤ tt, lit≤ tt), ((lit≤ tt, lit≤ tt), ((lit≤ tt, lit≤ tt), ((lit≤ tt, lit≤ tt), tt))))) (λ n. refl) (known-done (Within 1 5) (headOf (fieldsOf bytes))))
     (refusal .number) (refusal .place) refl
 
-rows-known : (head : Head) (a : Answer ℕ) → ((number row : ℕ) → a ≡ refused number row → number ≡ 9) → Known 1 9 (answerOf head a)
-rows-known head (done at) nine = known-done 1 9 _
-rows-known head (refused number row) nine = known-refused 1 9 number row (subst (Within 1 9) (sym (nine number row refl)) (lit≤ tt, lit≤ tt))
+rows-known : (head : Head) (a : Answer ℕ) → ((number row : ℕ) → a ≡ refused number row → CrateFault number) → Known ReadNumber (answerOf head a)
+rows-known head (done at) faults = known-done ReadNumber _
+rows-known head (refused number row) faults = known-refused ReadNumber number row (inr (faults number row refl))
 
 pub read-known : (bytes : List ℕ) (widest highest : ℕ) (out out′ : List Float) (store store′ : List ℕ) (refusal : Refusal)
-    → ReadPromise bytes widest highest out store (read.Refused refusal) out′ store′ → Within 1 9 (refusal .number)
+    → ReadPromise bytes widest highest out store (read.Refused refusal) out′ store′ → ReadNumber (refusal .number)
 unfolding readBy headChecks
 read-known bytes widest highest out out′ store store′ refusal promise =
     let head = headOf (fieldsOf bytes) in
     let rows = rowsOf crateRow cratePixel bytes (storedOf head) (head .taken) out (cleared (storedOf head .long) store) in
-    subst (λ (z : Answer Head × List Float × List ℕ). Known 1 9 (z .0)) (sym promise)
-    (known-checked 1 9 (λ (z : Answer Head × List Float × List ℕ). z .0) (λ n. (refuse n, out, store)) (headChecks bytes widest highest ++ frameChecks head out store) (framed head rows)
-    ((lit≤ tt, lit≤ tt), ((lit≤ tt, lit≤ tt), ((lit≤ tt, lit≤ tt), ((lit≤ tt, lit≤ tt), ((lit≤ tt, lit≤ tt), ((lit≤ tt, lit≤ tt), ((lit≤ tt, lit≤ tt), ((lit≤ tt, lit≤ tt), tt))))))))
+    subst (λ (z : Answer Head × List Float × List ℕ). Known ReadNumber (z .0)) (sym promise)
+    (known-checked ReadNumber (λ (z : Answer Head × List Float × List ℕ). z .0) (λ n. (refuse n, out, store)) (headChecks bytes widest highest ++ frameChecks head out store) (framed head rows)
+    (inl (lit≤ tt, lit≤ tt), (inl (lit≤ tt, lit≤ tt), (inl (lit≤ tt, lit≤ tt), (inl (lit≤ tt, lit≤ tt), (inl (lit≤ tt, lit≤ tt), (inl (lit≤ tt, lit≤ tt), (inl (lit≤ tt, lit≤ tt), (inl (lit≤ tt, lit≤ tt), tt))))))))
     (λ n. refl)
     (rows-known head (rows .0) (λ number row e. rows-number cratePixel bytes (storedOf head) (head .taken) out (cleared (storedOf head .long) store) number row e)))
     (refusal .number) (refusal .place) refl
@@ -82,54 +87,54 @@ read-known bytes widest highest out out′ store store′ refusal promise =
 -- ---- Writing
 
 module _ (w h : ℕ) where
-  sizes-within : AllWithin 7 13 (sizeChecks w h)
+  sizes-within : AllKnown (Within 7 13) (sizeChecks w h)
   sizes-within = ((lit≤ tt, lit≤ tt), ((lit≤ tt, lit≤ tt), tt))
 
-  frame-within : (got each : ℕ) → AllWithin 7 13 (writer.frameChecks w h got each)
+  frame-within : (got each : ℕ) → AllKnown (Within 7 13) (writer.frameChecks w h got each)
   frame-within got each = ((lit≤ tt, lit≤ tt), ((lit≤ tt, lit≤ tt), ((lit≤ tt, lit≤ tt), tt)))
 
-  bright-known : {B : Type 0} (answer : B → Answer ℕ) (f : Answer ℕ → B) (samples : List Float) (n : ℕ) (rest : B) → ((a : Answer ℕ) → answer (f a) ≡ a) → Known 7 13 (answer rest)
-      → Known 7 13 (answer (brightChecked f samples n rest))
+  bright-known : {B : Type 0} (answer : B → Answer ℕ) (f : Answer ℕ → B) (samples : List Float) (n : ℕ) (rest : B) → ((a : Answer ℕ) → answer (f a) ≡ a) → Known (Within 7 13) (answer rest)
+      → Known (Within 7 13) (answer (brightChecked f samples n rest))
   unfolding brightChecked
   bright-known answer f samples n rest is passes =
-      by-test (λ z. Known 7 13 (answer z)) (ltb (firstBright samples 0 n) n)
-      (λ t. subst (Known 7 13) (sym (is (refused 12 (firstBright samples 0 n)))) (known-refused 7 13 12 (firstBright samples 0 n) (lit≤ tt, lit≤ tt))) (λ t. passes)
+      by-test (λ z. Known (Within 7 13) (answer z)) (ltb (firstBright samples 0 n) n)
+      (λ t. subst (Known (Within 7 13)) (sym (is (refused 12 (firstBright samples 0 n)))) (known-refused (Within 7 13) 12 (firstBright samples 0 n) (lit≤ tt, lit≤ tt))) (λ t. passes)
 
-  stored-known : (file out : List ℕ) → Known 7 13 (stored file out .0)
+  stored-known : (file out : List ℕ) → Known (Within 7 13) (stored file out .0)
   unfolding stored
   stored-known file out =
-      known-checked 7 13 (λ (z : writer.Left). z .0) (λ n. (refuse n, out)) (check 13 (ltb (length out) (length file)) ∷ []) (done (length file), spread 1 out 0 file)
-      ((lit≤ tt, lit≤ tt), tt) (λ n. refl) (known-done 7 13 (length file))
+      known-checked (Within 7 13) (λ (z : writer.Left). z .0) (λ n. (refuse n, out)) (check 13 (ltb (length out) (length file)) ∷ []) (done (length file), spread 1 out 0 file)
+      ((lit≤ tt, lit≤ tt), tt) (λ n. refl) (known-done (Within 7 13) (length file))
 
   module _ (refusal : Refusal) where
     pub worst-known : WorstPromise w h (write.Refused refusal) → Within 7 13 (refusal .number)
     unfolding worstAnswer
     worst-known promise =
-        subst (Known 7 13) (sym promise) (known-checked 7 13 (λ a. a) refuse (sizeChecks w h) (done (worstOf w h)) sizes-within (λ n. refl) (known-done 7 13 (worstOf w h)))
+        subst (Known (Within 7 13)) (sym promise) (known-checked (Within 7 13) (λ a. a) refuse (sizeChecks w h) (done (worstOf w h)) sizes-within (λ n. refl) (known-done (Within 7 13) (worstOf w h)))
         (refusal .number) (refusal .place) refl
 
     pub length-known : (samples : List Float) → LengthPromise w h samples (write.Refused refusal) → Within 7 13 (refusal .number)
     unfolding lengthOf
     length-known samples promise =
         let size : Answer ℕ = done (length (fileOf samples w h)) in
-        subst (Known 7 13) (sym promise)
-        (known-checked 7 13 (λ a. a) refuse (writer.frameChecks w h (length samples) 3) (brightChecked (λ a. a) samples (w * h) size) (frame-within (length samples) 3) (λ n. refl)
-        (bright-known (λ a. a) (λ a. a) samples (w * h) size (λ a. refl) (known-done 7 13 (length (fileOf samples w h)))))
+        subst (Known (Within 7 13)) (sym promise)
+        (known-checked (Within 7 13) (λ a. a) refuse (writer.frameChecks w h (length samples) 3) (brightChecked (λ a. a) samples (w * h) size) (frame-within (length samples) 3) (λ n. refl)
+        (bright-known (λ a. a) (λ a. a) samples (w * h) size (λ a. refl) (known-done (Within 7 13) (length (fileOf samples w h)))))
         (refusal .number) (refusal .place) refl
 
     pub length4-known : (px : List ℕ) → Length4Promise w h px (write.Refused refusal) → Within 7 13 (refusal .number)
     unfolding length4Of
     length4-known px promise =
-        subst (Known 7 13) (sym promise)
-        (known-checked 7 13 (λ a. a) refuse (writer.frameChecks w h (length px) 4) (done (length (frameOf px w h))) (frame-within (length px) 4) (λ n. refl) (known-done 7 13 (length (frameOf px w h))))
+        subst (Known (Within 7 13)) (sym promise)
+        (known-checked (Within 7 13) (λ a. a) refuse (writer.frameChecks w h (length px) 4) (done (length (frameOf px w h))) (frame-within (length px) 4) (λ n. refl) (known-done (Within 7 13) (length (frameOf px w h))))
         (refusal .number) (refusal .place) refl
 
     pub write-known : (samples : List Float) (out out′ : List ℕ) → WritePromise w h samples out (write.Refused refusal) out′ → Within 7 13 (refusal .number)
     unfolding writeOf
     write-known samples out out′ promise =
         let rest : writer.Left = stored (fileOf samples w h) out in
-        subst (λ (z : writer.Left). Known 7 13 (z .0)) (sym promise)
-        (known-checked 7 13 (λ (z : writer.Left). z .0) (λ n. (refuse n, out)) (writer.frameChecks w h (length samples) 3) (brightChecked (λ a. (a, out)) samples (w * h) rest)
+        subst (λ (z : writer.Left). Known (Within 7 13) (z .0)) (sym promise)
+        (known-checked (Within 7 13) (λ (z : writer.Left). z .0) (λ n. (refuse n, out)) (writer.frameChecks w h (length samples) 3) (brightChecked (λ a. (a, out)) samples (w * h) rest)
         (frame-within (length samples) 3) (λ n. refl)
         (bright-known (λ (z : writer.Left). z .0) (λ a. (a, out)) samples (w * h) rest (λ a. refl) (stored-known (fileOf samples w h) out)))
         (refusal .number) (refusal .place) refl
@@ -137,7 +142,7 @@ module _ (w h : ℕ) where
     pub write4-known : (px out out′ : List ℕ) → Write4Promise w h px out (write.Refused refusal) out′ → Within 7 13 (refusal .number)
     unfolding write4Of
     write4-known px out out′ promise =
-        subst (λ (z : writer.Left). Known 7 13 (z .0)) (sym promise)
-        (known-checked 7 13 (λ (z : writer.Left). z .0) (λ n. (refuse n, out)) (writer.frameChecks w h (length px) 4) (stored (frameOf px w h) out) (frame-within (length px) 4) (λ n. refl)
+        subst (λ (z : writer.Left). Known (Within 7 13) (z .0)) (sym promise)
+        (known-checked (Within 7 13) (λ (z : writer.Left). z .0) (λ n. (refuse n, out)) (writer.frameChecks w h (length px) 4) (stored (frameOf px w h) out) (frame-within (length px) 4) (λ n. refl)
         (stored-known (frameOf px w h) out))
         (refusal .number) (refusal .place) refl

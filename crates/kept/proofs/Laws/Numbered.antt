@@ -13,7 +13,7 @@ use Rattle.steps.specs.Numbered.{numberOf, firstOf, Exactly}
 use Rattle.steps.proofs.Laws.Numbered.{number-checked, first-append, exactly, checked-of}
 use Rattle.header.specs.declared.Head.{Head}
 use Rattle.header.specs.Head.{headChecks, headerOf, fieldsOf, headOf}
-use Rattle.rows_read.specs.Row.{RowRule, crateRow}
+use Rattle.rows_read.specs.Row.{RowRule, crateRow, CrateFault}
 use Rattle.reader.specs.Samples.{SampleRule}
 use Rattle.reader.specs.Frame.{Stored, storedOf, cleared, rowsOf, faultOf}
 use Rattle.reader.specs.Read.{frameChecks, answerOf, framed, cratePixel, readBy}
@@ -58,19 +58,19 @@ module _ (rowRule : RowRule) (rule : SampleRule) (bytes : List ℕ) (widest high
   pub read-numbered-by : Exactly (readChecks rowRule rule bytes widest highest out store) (numberOf (readBy rowRule rule bytes widest highest out store .0))
   read-numbered-by = exactly (readChecks rowRule rule bytes widest highest out store) _ read-number
 
--- `reader::read`: 1 to 9
+-- `reader::read`: 1 to 8, and the number of a row
 pub read-numbered : (bytes : List ℕ) (widest highest : ℕ) (out : List Float) (store : List ℕ)
     → Exactly (readChecks crateRow cratePixel bytes widest highest out store) (numberOf (readBy crateRow cratePixel bytes widest highest out store .0))
 read-numbered = read-numbered-by crateRow cratePixel
 
--- since the check of the crate's rows is 9 where it fails
-pub fault-nine : (rule : SampleRule) (bytes : List ℕ) (stored : Stored) (at : ℕ) (out : List Float) (store : List ℕ)
-    → let fault = faultOf (rowsOf crateRow rule bytes stored at out store .0) in (fault ≡ check 0 false) ⊎ (fault ≡ check 9 true)
-fault-nine rule bytes stored at out store = by (rowsOf crateRow rule bytes stored at out store .0) (λ number row e. rows-number rule bytes stored at out store number row e)
+-- the check of the crate's rows is 9 or 25 where it fails
+pub fault-known : (rule : SampleRule) (bytes : List ℕ) (stored : Stored) (at : ℕ) (out : List Float) (store : List ℕ)
+    → let fault = faultOf (rowsOf crateRow rule bytes stored at out store .0) in (fault ≡ check 0 false) ⊎ ((n : ℕ) × CrateFault n × (fault ≡ check n true))
+fault-known rule bytes stored at out store = by (rowsOf crateRow rule bytes stored at out store .0) (λ number row e. rows-number rule bytes stored at out store number row e)
   where
-    by : (a : Answer ℕ) → ((number row : ℕ) → a ≡ refused number row → number ≡ 9) → (faultOf a ≡ check 0 false) ⊎ (faultOf a ≡ check 9 true)
-    by (done next) nine = inl refl
-    by (refused number row) nine = inr (ap (λ (n : ℕ). check n true) (nine number row refl))
+    by : (a : Answer ℕ) → ((number row : ℕ) → a ≡ refused number row → CrateFault number) → (faultOf a ≡ check 0 false) ⊎ ((n : ℕ) × CrateFault n × (faultOf a ≡ check n true))
+    by (done next) faults = inl refl
+    by (refused number row) faults = inr (number, faults number row refl, refl)
 
 -- ---- The writer's calls
 

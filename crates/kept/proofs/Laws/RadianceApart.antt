@@ -7,32 +7,30 @@ use Rattle.steps.specs.Loop.{run}
 use Rattle.steps.specs.Place.{bytesFrom, spread}
 use Rattle.steps.specs.declared.Taken.the-variants.{Done, Fault}
 use Rattle.channels_read.specs.Channel.{channelOf, channelTurn, crateCount, isRun, spanBytes, spanLength, spanOf, spanTaken}
-use Rattle.flat_read.specs.Repeat.{copied, lasts, repeatOf, repeatTurn}
-use Rattle.flat_read.specs.Flat.{crateFlat, flatOf, flatTurn, fourTo, goesOn, isRepeat, repeated}
+use Rattle.flat_read.specs.Flat.{crateFlat, flatOf, flatTurn, fourTo, isRepeat}
 use Rattle.channels_read.specs.Channels.{channelsOf, chansTurn}
 use Rattle.steps.specs.Width.{isCoded}
 use Rattle.rows_read.specs.Row.{isFlatWidth, isMark, kindOf, early, rowBy, crateStart, crateParts, crateRow}
 use Rattle.kept.specs.Radiance.{rgbe, isOver, span, spans, components, past, coded, isOldRun, meaning, flatFrom, flat, flatBytes}
 
--- ---- Old runs
+-- ---- Old runs: the crate reading refuses each by 25, its four bytes in the store
 
--- width 2: by the document pixel 1 is a copy of pixel 0; the crate makes none at the part's second pixel, and misses a pixel
+-- width 2: by the document pixel 1 is a copy of pixel 0
 pub one-copy : (flat 2 (10 ∷ 10 ∷ 10 ∷ 129 ∷ 1 ∷ 1 ∷ 1 ∷ 1 ∷ []) ≡ some (rgbe 10 10 10 129 ∷ rgbe 10 10 10 129 ∷ [], []))
-    × (crateRow (10 ∷ 10 ∷ 10 ∷ 129 ∷ 1 ∷ 1 ∷ 1 ∷ 1 ∷ []) 0 (replicate 8 0) 2 ≡ (Fault 9, 10 ∷ 10 ∷ 10 ∷ 129 ∷ 1 ∷ 1 ∷ 1 ∷ 1 ∷ []))
-unfolding flatFrom meaning isOldRun crateRow rowBy crateParts isFlatWidth isCoded flatOf run flatTurn goesOn crateFlat isRepeat fourTo repeated repeatOf repeatTurn lasts copied bytesFrom spread
+    × (crateRow (10 ∷ 10 ∷ 10 ∷ 129 ∷ 1 ∷ 1 ∷ 1 ∷ 1 ∷ []) 0 (replicate 8 0) 2 ≡ (Fault 25, 10 ∷ 10 ∷ 10 ∷ 129 ∷ 1 ∷ 1 ∷ 1 ∷ 1 ∷ []))
+unfolding flatFrom meaning isOldRun crateRow rowBy crateParts isFlatWidth isCoded flatOf run flatTurn crateFlat isRepeat fourTo bytesFrom spread
 one-copy = (refl, refl)
 
--- sample sky 5: by the document pixels 2 and 3 are copies of pixel 1; the crate keeps the old run itself
+-- sample sky 5: by the document pixels 2 and 3 are copies of pixel 1
 pub sky-five : (flat 4 (10 ∷ 10 ∷ 10 ∷ 129 ∷ 20 ∷ 20 ∷ 20 ∷ 129 ∷ 1 ∷ 1 ∷ 1 ∷ 2 ∷ []) ≡ some (rgbe 10 10 10 129 ∷ replicate 3 (rgbe 20 20 20 129), []))
     × (crateRow (10 ∷ 10 ∷ 10 ∷ 129 ∷ 20 ∷ 20 ∷ 20 ∷ 129 ∷ 1 ∷ 1 ∷ 1 ∷ 2 ∷ []) 0 (replicate 16 0) 4
-    ≡ (Done 12, flatBytes (rgbe 10 10 10 129 ∷ rgbe 20 20 20 129 ∷ rgbe 1 1 1 2 ∷ rgbe 0 0 0 0 ∷ [])))
-unfolding flatFrom meaning isOldRun crateRow rowBy crateParts isFlatWidth isCoded flatOf run flatTurn goesOn crateFlat isRepeat fourTo repeated repeatOf repeatTurn lasts copied bytesFrom spread
+    ≡ (Fault 25, flatBytes (rgbe 10 10 10 129 ∷ rgbe 20 20 20 129 ∷ rgbe 1 1 1 2 ∷ rgbe 0 0 0 0 ∷ [])))
+unfolding flatFrom meaning isOldRun crateRow rowBy crateParts isFlatWidth isCoded flatOf run flatTurn crateFlat isRepeat fourTo bytesFrom spread
 sky-five = (refl, refl)
 
--- no pixel before an old run: by the document there is no scanline; the crate ends the row after three
-pub none-before : (flat 1 (1 ∷ 1 ∷ 1 ∷ 0 ∷ 1 ∷ 1 ∷ 1 ∷ 0 ∷ 1 ∷ 1 ∷ 1 ∷ 0 ∷ []) ≡ none)
-    × (crateRow (1 ∷ 1 ∷ 1 ∷ 0 ∷ 1 ∷ 1 ∷ 1 ∷ 0 ∷ 1 ∷ 1 ∷ 1 ∷ 0 ∷ []) 0 (replicate 4 0) 1 ≡ (Done 12, 1 ∷ 1 ∷ 1 ∷ 0 ∷ []))
-unfolding flatFrom meaning isOldRun crateRow rowBy crateParts isFlatWidth isCoded flatOf run flatTurn goesOn crateFlat isRepeat fourTo repeated repeatOf repeatTurn lasts copied bytesFrom spread
+-- no pixel before an old run: by the document there is no scanline
+pub none-before : (flat 1 (1 ∷ 1 ∷ 1 ∷ 0 ∷ []) ≡ none) × (crateRow (1 ∷ 1 ∷ 1 ∷ 0 ∷ []) 0 (replicate 4 0) 1 ≡ (Fault 25, 1 ∷ 1 ∷ 1 ∷ 0 ∷ []))
+unfolding flatFrom meaning isOldRun crateRow rowBy crateParts isFlatWidth isCoded flatOf run flatTurn crateFlat isRepeat fourTo bytesFrom spread
 none-before = (refl, refl)
 
 -- ---- New run-length scanlines of width 8; by the document none of these is one

@@ -16,10 +16,10 @@ use Rattle.steps.specs.declared.Taken.the-variants.{Done}
 use Rattle.flat_read.specs.Flat.{FlatRule, isRepeat, crateFlat, flatOf}
 use Rattle.steps.proofs.Laws.Width.{width-narrow, width-wide}
 use Rattle.rows_read.specs.Row.{isFlatWidth, isMark, crateStart, crateRow}
-use Rattle.flat_read.proofs.Laws.Flat.{flat-starts}
+use Rattle.flat_read.proofs.Laws.Flat.{NoRepeat, flat-starts}
 use Rattle.rows_read.proofs.Laws.Row.{mark-not, kind-flat, kind-pixel, early-other, early-two, start-flat, start-pixel, row-by-width, row-flat, row-pixel}
 use Rattle.channels_written.proofs.Laws.Channel.{and-no}
-use Rattle.back.proofs.Laws.Row.{NoRepeat, coded-width, flat-there}
+use Rattle.back.proofs.Laws.Row.{coded-width, flat-there}
 use Rattle.kept.specs.Radiance.{after, isOldRun, Meaning, meaning, onward, flatFrom, flat, flatBytes, NoOldRun}
 use Rattle.kept.proofs.Laws.RadianceRows.{RowReads, all-bytes, behind}
 
@@ -75,7 +75,7 @@ part-there rule src at store start qs rest none e =
     let n : ℕ = length qs in
     let all : bytesFrom (flatBytes qs) 0 (4 * n) ≡ flatBytes qs = all-bytes (flatBytes qs) (4 * n) (length-flat qs) in
     ap (λ (l : List ℕ). (Done (at + 4 * n), spread 1 store start l)) (sym all)
-    ∙ flat-there rule (flatBytes qs) src 0 n start at start store rest _ (e ∙ ap (λ (l : List ℕ). l ++ rest) (sym all)) (no-repeat qs none) (flat-starts rule src at store start n)
+    ∙ flat-there rule (flatBytes qs) src 0 n at start store rest _ (e ∙ ap (λ (l : List ℕ). l ++ rest) (sym all)) (no-repeat qs none) (flat-starts rule src at store start n)
 
 -- both read the pixels qs, and rest follows
 abbrev pub BothRead : List ℕ → ℕ → List ℕ → List Rgbe → List ℕ → Type 0
@@ -100,6 +100,10 @@ two-stored src at store =
     let two : at + 2 ≡ at + 1 + 1 = omega arith in
     rw two
 
+pub flat-width : (w : ℕ) → (w < 8) ⊎ (32767 < w) → true ≡ isFlatWidth w
+unfolding isFlatWidth
+flat-width w = ⊎-elim (λ h. simp (width-narrow w h)) (λ h. simp (width-wide w (omega arith) h))
+
 module _ (src : List ℕ) (at : ℕ) (store rest : List ℕ) where
   both : (qs : List Rgbe) → NoOldRun qs → drop at src ≡ flatBytes qs ++ rest
       → (Done (at + 4 * length qs), spread 1 store 0 (flatBytes qs)) ≡ crateRow src at store (length qs) → BothRead src at store qs rest
@@ -107,10 +111,6 @@ module _ (src : List ℕ) (at : ℕ) (store rest : List ℕ) where
     ap (flat (length qs)) e ∙ flat-found qs rest none,
     (flatBytes qs, e, length-flat qs, sym row ∙ ap (λ (i : ℕ). (Done (at + i), spread 1 store 0 (flatBytes qs))) (sym (length-flat qs))),
   )
-
-  flat-width : (w : ℕ) → (w < 8) ⊎ (32767 < w) → true ≡ isFlatWidth w
-  unfolding isFlatWidth
-  flat-width w = ⊎-elim (λ h. simp (width-narrow w h)) (λ h. simp (width-wide w (omega arith) h))
 
   -- widths 1 to 7 and over 32,767
   pub flat-by-width : (qs : List Rgbe) → (length qs < 8) ⊎ (32767 < length qs) → NoOldRun qs → drop at src ≡ flatBytes qs ++ rest → BothRead src at store qs rest

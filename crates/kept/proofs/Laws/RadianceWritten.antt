@@ -21,7 +21,7 @@ use Rattle.steps.specs.Width.{isCoded}
 use Rattle.back.proofs.Laws.Coded.{code-by}
 use Rattle.channels_written.proofs.Laws.Places.{length-channel}
 use Rattle.rows_written.proofs.Laws.Row.{row-coded, row-flat}
-use Rattle.back.proofs.Laws.Row.{NoRepeat}
+use Rattle.flat_read.proofs.Laws.Flat.{NoRepeat}
 use Rattle.back.proofs.Laws.Weave.{bytes-four}
 use Rattle.kept.specs.Radiance.{rgbe, Found, after, andThen, isOver, span, spans, component, pixels, components, mark, past, coded, isOldRun, flat, flatBytes, NoOldRun}
 use Rattle.kept.proofs.Laws.RadianceComponent.{found-then, found-after, found-if}
@@ -114,7 +114,7 @@ code-found n xs rest s =
 abbrev pub rowPixels : List ℕ → ℕ → ℕ → List Rgbe
 rowPixels px at w = pixels (channel px at w) (channel px (at + 1) w) (channel px (at + 2) w) (channel px (at + 3) w)
 
-pixels-next : (px : List ℕ) (at n : ℕ) → rowPixels px at (suc n) ≡ rgbe (getD px at 0) (getD px (at + 1) 0) (getD px (at + 2) 0) (getD px (at + 3) 0) ∷ rowPixels px (at + 4) n
+pub pixels-next : (px : List ℕ) (at n : ℕ) → rowPixels px at (suc n) ≡ rgbe (getD px at 0) (getD px (at + 1) 0) (getD px (at + 2) 0) (getD px (at + 3) 0) ∷ rowPixels px (at + 4) n
 pixels-next px at n =
     let one : at + 1 + 4 ≡ at + 4 + 1 = omega arith in
     let two : at + 2 + 4 ≡ at + 4 + 2 = omega arith in
@@ -168,7 +168,7 @@ coded-written px at w rest t = ap (λ (l : List ℕ). coded w (l ++ rest)) (row-
 
 -- ---- A flat row
 
-no-old-run : (px : List ℕ) (at w : ℕ) → NoRepeat px at w → NoOldRun (rowPixels px at w)
+pub no-old-run : (px : List ℕ) (at w : ℕ) → NoRepeat px at w → NoOldRun (rowPixels px at w)
 unfolding isRepeat isOldRun
 no-old-run px at zero plain = tt
 no-old-run px at (suc n) plain =

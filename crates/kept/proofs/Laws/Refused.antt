@@ -1,4 +1,4 @@
--- A refusal changes no lent memory, over what the calls promise; refusal 9 of the reader is the only one that may.
+-- A refusal changes no lent memory, over what the calls promise; 9 and 25 of the reader are the only ones that may.
 use Prim.Native.Nat.{ℕ, _*_}
 use mathlib.Core.List.{List, [], _∷_, _++_}
 use mathlib.Core.Path.{_≡_, refl, sym, _∙_, subst}
@@ -12,7 +12,7 @@ use Rattle.steps.proofs.Laws.Answer.{differ}
 use Rattle.steps.proofs.Laws.Turns.{by-test}
 use Rattle.header.specs.declared.Head.{Head}
 use Rattle.header.specs.Head.{headChecks, fieldsOf, headOf}
-use Rattle.rows_read.specs.Row.{crateRow}
+use Rattle.rows_read.specs.Row.{crateRow, CrateFault}
 use Rattle.reader.specs.Frame.{storedOf, cleared, rowsOf}
 use Rattle.reader.specs.Read.{frameChecks, cratePixel, answerOf, framed, readBy, ReadPromise}
 use Rattle.reader.specs.declared.ReadAnswer.the-variants as read
@@ -37,13 +37,13 @@ abbrev Read : Type 0
 Read = Answer Head × List Float × List ℕ
 
 module _ (bytes : List ℕ) (widest highest : ℕ) (out : List Float) (store : List ℕ) where
-  -- a refusal that is not 9 leaves both as they were
+  -- a refusal that is not a row's leaves both as they were
   abbrev Same : Read → Type 0
-  Same z = (n k : ℕ) → z .0 ≡ refused n k → (n ≡ 9 → ⊥) → (z .1 ≡ out) × (z .2 ≡ store)
+  Same z = (n k : ℕ) → z .0 ≡ refused n k → (CrateFault n → ⊥) → (z .1 ≡ out) × (z .2 ≡ store)
 
-  by-rows : (head : Head) (a : Answer ℕ) (o : List Float) (s : List ℕ) → ((number row : ℕ) → a ≡ refused number row → number ≡ 9) → Same (answerOf head a, o, s)
-  by-rows head (done at) o s nine n k e not = absurd (differ _ n k e)
-  by-rows head (refused number row) o s nine n k e not = absurd (not (sym (number-of e) ∙ nine number row refl))
+  by-rows : (head : Head) (a : Answer ℕ) (o : List Float) (s : List ℕ) → ((number row : ℕ) → a ≡ refused number row → CrateFault number) → Same (answerOf head a, o, s)
+  by-rows head (done at) o s faults n k e not = absurd (differ _ n k e)
+  by-rows head (refused number row) o s faults n k e not = absurd (not (subst CrateFault (number-of e) (faults number row refl)))
 
   same : Same (readBy crateRow cratePixel bytes widest highest out store)
   unfolding readBy
@@ -54,7 +54,7 @@ module _ (bytes : List ℕ) (widest highest : ℕ) (out : List Float) (store : L
       (by-rows head (rows .0) (rows .1) (rows .2) (λ number row e. rows-number cratePixel bytes (storedOf head) (head .taken) out (cleared (storedOf head .long) store) number row e))
 
   pub read-refused-same : (refusal : Refusal) (out′ : List Float) (store′ : List ℕ) → ReadPromise bytes widest highest out store (read.Refused refusal) out′ store′
-      → (refusal .number ≡ 9 → ⊥) → (out′ ≡ out) × (store′ ≡ store)
+      → (CrateFault (refusal .number) → ⊥) → (out′ ≡ out) × (store′ ≡ store)
   read-refused-same refusal out′ store′ promise = subst Same (sym promise) same (refusal .number) (refusal .place) refl
 
 -- ---- The writer

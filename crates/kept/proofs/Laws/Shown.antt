@@ -9,8 +9,7 @@ use Rattle.words.specs.Lines.{upTo, past, same, isFirst, lineTurn, linesEnd}
 use Rattle.words.specs.Fields.{isBlank, trimStart, trimEnd, fieldsAt, axesOf}
 use Rattle.words.specs.Sizes.{unsigned, isDigit, allDigits, valueFrom, isNumber, isSize, sizeOf}
 use Rattle.header.specs.Head.{fieldsOf, headChecks, headOf}
-use Rattle.flat_read.specs.Repeat.{lasts, copied, repeatTurn, repeatOf}
-use Rattle.flat_read.specs.Flat.{fourTo, isRepeat, repeated, crateFlat, goesOn, flatTurn, flatOf}
+use Rattle.flat_read.specs.Flat.{fourTo, isRepeat, crateFlat, flatTurn, flatOf}
 use Rattle.channels_read.specs.Channel.{isRun, spanLength, spanBytes, spanTaken, spanOf, crateCount, channelTurn, channelOf}
 use Rattle.channels_read.specs.Channels.{chansTurn, channelsOf}
 use Rattle.steps.specs.Width.{isCoded}
@@ -22,5 +21,5 @@ use Rattle.kept.specs.Skies.{Each}
 use Rattle.kept.specs.Shown.{unlit, shown}
 
 pub all-shown : Each shown
-unfolding round size run bytesFrom spread ofUnits mag crateShift crateScale crateUnits peak tooBright bytesOf packedOf upTo past same isFirst lineTurn linesEnd isBlank trimStart trimEnd fieldsAt axesOf unsigned isDigit allDigits valueFrom isNumber isSize sizeOf fieldsOf headChecks headOf lasts copied repeatTurn repeatOf fourTo isRepeat repeated crateFlat goesOn flatTurn flatOf isRun spanLength spanBytes spanTaken spanOf crateCount channelTurn channelOf chansTurn channelsOf isFlatWidth isCoded isMark kindOf early rowBy crateStart crateParts crateRow unlit placed stepOf rowTurn rowsOf cratePixel readBy
+unfolding round size run bytesFrom spread ofUnits mag crateShift crateScale crateUnits peak tooBright bytesOf packedOf upTo past same isFirst lineTurn linesEnd isBlank trimStart trimEnd fieldsAt axesOf unsigned isDigit allDigits valueFrom isNumber isSize sizeOf fieldsOf headChecks headOf fourTo isRepeat crateFlat flatTurn flatOf isRun spanLength spanBytes spanTaken spanOf crateCount channelTurn channelOf chansTurn channelsOf isFlatWidth isCoded isMark kindOf early rowBy crateStart crateParts crateRow unlit placed stepOf rowTurn rowsOf cratePixel readBy
 all-shown = (refl, (refl, (refl, (refl, (refl, (refl, (refl, (refl, (refl, (refl, (refl, (refl, (refl, (refl, (refl, (refl, tt))))))))))))))))

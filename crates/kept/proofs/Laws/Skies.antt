@@ -10,8 +10,7 @@ use Rattle.words.specs.Lines.{upTo, past, same, isFirst, lineTurn, linesEnd}
 use Rattle.words.specs.Fields.{isBlank, trimStart, trimEnd, fieldsAt, axesOf}
 use Rattle.words.specs.Sizes.{unsigned, isDigit, allDigits, valueFrom, isNumber, isSize, sizeOf}
 use Rattle.header.specs.Head.{fieldsOf, headChecks, headOf}
-use Rattle.flat_read.specs.Repeat.{lasts, copied, repeatTurn, repeatOf}
-use Rattle.flat_read.specs.Flat.{fourTo, isRepeat, repeated, crateFlat, goesOn, flatTurn, flatOf}
+use Rattle.flat_read.specs.Flat.{fourTo, isRepeat, crateFlat, flatTurn, flatOf}
 use Rattle.steps.specs.Width.{isCoded}
 use Rattle.rows_read.specs.Row.{isFlatWidth, rowBy, crateParts, crateRow}
 use Rattle.channels_written.specs.Channel.{grow, cut, stretch, gather, code}
@@ -21,5 +20,5 @@ use Rattle.reader.specs.Read.{cratePixel, readBy}
 use Rattle.kept.specs.Skies.{skies, Each}
 
 pub all-skies : Each skies
-unfolding round size run bytesFrom spread ofUnits mag crateShift crateScale crateUnits docScale docUnits peak tooBright bytesOf packedOf upTo past same isFirst lineTurn linesEnd isBlank trimStart trimEnd fieldsAt axesOf unsigned isDigit allDigits valueFrom isNumber isSize sizeOf fieldsOf headChecks headOf lasts copied repeatTurn repeatOf fourTo isRepeat repeated crateFlat goesOn flatTurn flatOf isFlatWidth isCoded rowBy crateParts crateRow grow cut stretch gather code placed stepOf rowTurn rowsOf cratePixel readBy
+unfolding round size run bytesFrom spread ofUnits mag crateShift crateScale crateUnits docScale docUnits peak tooBright bytesOf packedOf upTo past same isFirst lineTurn linesEnd isBlank trimStart trimEnd fieldsAt axesOf unsigned isDigit allDigits valueFrom isNumber isSize sizeOf fieldsOf headChecks headOf fourTo isRepeat crateFlat flatTurn flatOf isFlatWidth isCoded rowBy crateParts crateRow grow cut stretch gather code placed stepOf rowTurn rowsOf cratePixel readBy
 all-skies = (refl, (refl, (refl, (refl, (refl, (refl, (refl, (refl, (refl, (refl, (refl, (refl, (refl, (refl, (refl, (refl, tt))))))))))))))))

@@ -17,8 +17,8 @@ use Rattle.header.specs.declared.Head.{Head}
 use Rattle.header.specs.declared.HeadAnswer.{HeadAnswer}
 use Rattle.header.specs.declared.HeadAnswer.the-variants.{Read, Refused}
 use Rattle.header.proofs.Laws.Head.{header-limits}
-use Rattle.rows_read.specs.Row.{RowRule, crateRow}
-use Rattle.rows_read.proofs.Laws.Nine.{crate-nine}
+use Rattle.rows_read.specs.Row.{RowRule, crateRow, CrateFault}
+use Rattle.rows_read.proofs.Laws.Faults.{crate-faults}
 use Rattle.steps.specs.declared.Taken.{Taken}
 use Rattle.steps.specs.declared.Taken.the-variants.{Done, Fault}
 use Rattle.reader.specs.Samples.{SampleRule}
@@ -50,11 +50,11 @@ module _ (rowRule : RowRule) (rule : SampleRule) (bytes : List ℕ) (head : Head
     pub frame-again : (at : ℕ) → t ≡ Done at → Runs (rowTurn rowRule rule bytes (storedOf head)) noRows (head .height - (row + 1)) (rows at (row + 1) store′ out′) a
     frame-again at k = rows-again rowRule rule bytes (storedOf head) p row store out a r h t out′ store′ there at k
 
--- the crate's rows are refused by 9, and by no other number
+-- the numbers by which the crate's rows are refused
 pub rows-number : (rule : SampleRule) (bytes : List ℕ) (stored : Stored) (at : ℕ) (out : List Float) (store : List ℕ) (number row : ℕ)
-    → rowsOf crateRow rule bytes stored at out store .0 ≡ refused number row → number ≡ 9
+    → rowsOf crateRow rule bytes stored at out store .0 ≡ refused number row → CrateFault number
 rows-number rule bytes stored at out store number row e =
-    rows-faults crateRow rule bytes stored (λ n. n ≡ 9) (λ at s n s′ f. crate-nine bytes at s (stored .long) n s′ f) at out store number row e
+    rows-faults crateRow rule bytes stored CrateFault (λ at s n s′ f. crate-faults bytes at s (stored .long) n s′ f) at out store number row e
 
 -- ---- How many samples a frame has
 

@@ -17,7 +17,7 @@ use Rattle.steps.specs.declared.Taken.the-variants.{Done, Fault}
 use Rattle.channels_read.specs.Channel.{Chan, chan, CountRule, crateCount, channelTurn, channelOut, channelOf, spanBytes, spanOf}
 use Rattle.channels_read.specs.Channels.{Chans, chans, afterChannel, chansTurn, chansOut, channelsOf}
 use Rattle.channels_read.proofs.Laws.Channel.{channel-cases, channel-falls, turn-done, turn-short, turn-fault, turn-span}
-use Rattle.flat_read.specs.Flat.{Flat, FlatRule, flat, crateFlat, fourTo, goesOn, isRepeat, flatTurn, flatOut, flatOf, ordinary, repeated, stored}
+use Rattle.flat_read.specs.Flat.{Flat, FlatRule, flat, crateFlat, fourTo, isRepeat, flatTurn, flatOut, flatOf, ordinary, stored}
 use Rattle.flat_read.proofs.Laws.Flat.{OnesOnward, crate-onward, flat-falls}
 use Rattle.rows_read.specs.declared.kind.Kind.{Kind}
 use Rattle.rows_read.specs.declared.kind.Kind.the-variants as kind
@@ -122,11 +122,11 @@ module _ (rule : CountRule) (before : CountBefore rule) (pre src : List ℕ) whe
 -- ---- A flat part, by a rule of which the same holds at missing bytes and at 1,1,1,n
 
 abbrev pub flat-later : ℕ → Flat → Flat
-flat-later n x = flat (n + x .at) (x .place) (x .wanted) (x .shift) (x .store)
+flat-later n x = flat (n + x .at) (x .place) (x .wanted) (x .store)
 
 pub record FlatBefore (rule : FlatRule) : Type 0 where
   pub missing : (pre src : List ℕ) (x : Flat) → rule .missing (pre ++ src) (flat-later (length pre) x) ≡ rule .missing src x
-  pub ones : (pre src : List ℕ) (start : ℕ) (x : Flat) → rule .ones (pre ++ src) start (flat-later (length pre) x) ≡ told (flat-later (length pre)) (laterBy (length pre)) (rule .ones src start x)
+  pub ones : (pre src : List ℕ) (x : Flat) → rule .ones (pre ++ src) (flat-later (length pre) x) ≡ told (flat-later (length pre)) (laterBy (length pre)) (rule .ones src x)
 
 four-later : (pre src : List ℕ) (at : ℕ) (store : List ℕ) (place : ℕ) → fourTo (pre ++ src) (length pre + at) store place ≡ fourTo src at store place
 unfolding fourTo
@@ -148,20 +148,20 @@ told-picks f g true false true w x y z = refl
 told-picks f g true false false w x y z = refl
 
 module _ (rule : FlatRule) (on : OnesOnward rule) (before : FlatBefore rule) (pre src : List ℕ) where
-  flat-turns : (start : ℕ) (x : Flat) → flatTurn rule (pre ++ src) start (flat-later (length pre) x) ≡ told (flat-later (length pre)) (laterBy (length pre)) (flatTurn rule src start x)
+  flat-turns : (x : Flat) → flatTurn rule (pre ++ src) (flat-later (length pre) x) ≡ told (flat-later (length pre)) (laterBy (length pre)) (flatTurn rule src x)
   unfolding flatTurn
-  flat-turns start x =
+  flat-turns x =
       let next : length pre + x .at + 4 ≡ length pre + (x .at + 4) = omega arith in
-      rw (next, past-end pre src (x .at + 4), repeat-later pre src (x .at), before .missing pre src x, before .ones pre src start x, four-later pre src (x .at) (x .store) (x .place))
-      (told-picks (flat-later (length pre)) (laterBy (length pre)) (goesOn (x .wanted) (x .shift)) (ltb (length src) (x .at + 4)) (isRepeat src (x .at))
-      (halt (Fault 9, rule .missing src x)) (rule .ones src start x) (more (ordinary (stored src x))) (halt (Done (x .at), x .store)))
+      rw (next, past-end pre src (x .at + 4), repeat-later pre src (x .at), before .missing pre src x, before .ones pre src x, four-later pre src (x .at) (x .store) (x .place))
+      (told-picks (flat-later (length pre)) (laterBy (length pre)) (ltb 0 (x .wanted)) (ltb (length src) (x .at + 4)) (isRepeat src (x .at))
+      (halt (Fault 9, rule .missing src x)) (rule .ones src x) (more (ordinary (stored src x))) (halt (Done (x .at), x .store)))
 
   pub flat-before : (at : ℕ) (store : List ℕ) (start wanted : ℕ) → flatOf rule (pre ++ src) (length pre + at) store start wanted ≡ laterBy (length pre) (flatOf rule src at store start wanted)
   unfolding flatOf
   flat-before at store start wanted =
       let size = length-append pre src in
-      enough-turns (flatTurn rule (pre ++ src) start) flatOut flatOut (λ y. length (pre ++ src) - y .at) (flat-falls rule on (pre ++ src) start) (length (pre ++ src) + 1) (length src + 1) (flat (length pre + at) start wanted 0 store) (omega arith) (omega arith)
-      ∙ told-run (flatTurn rule src start) (flatTurn rule (pre ++ src) start) flatOut flatOut (flat-later (length pre)) (laterBy (length pre)) (flat-turns start) (λ x. refl) (length src + 1) (flat at start wanted 0 store)
+      enough-turns (flatTurn rule (pre ++ src)) flatOut flatOut (λ y. length (pre ++ src) - y .at) (flat-falls rule on (pre ++ src)) (length (pre ++ src) + 1) (length src + 1) (flat (length pre + at) start wanted store) (omega arith) (omega arith)
+      ∙ told-run (flatTurn rule src) (flatTurn rule (pre ++ src)) flatOut flatOut (flat-later (length pre)) (laterBy (length pre)) flat-turns (λ x. refl) (length src + 1) (flat at start wanted store)
 
 -- ---- The row
 
@@ -213,10 +213,10 @@ unfolding crateCount
 crate-count-before pre src at done width = rw (byte-later pre src at)
 
 crate-flat-before : FlatBefore crateFlat
-unfolding crateFlat repeated
+unfolding crateFlat
 crate-flat-before = record {
   missing = λ pre src x. four-later pre src (x .at) (x .store) (x .place);
-  ones = λ pre src start x. rw (add-assoc, add-assoc, four-later pre src (x .at) (x .store) (x .place), byte-later pre src (x .at + 3)) refl;
+  ones = λ pre src x. rw (four-later pre src (x .at) (x .store) (x .place)) refl;
 }
 
 start-before : (pre src : List ℕ) (at : ℕ) (store : List ℕ) → crateStart (pre ++ src) (length pre + at) store ≡ crateStart src at store

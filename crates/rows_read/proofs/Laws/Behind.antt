@@ -7,8 +7,9 @@ use native.Mathlib.Omega.{arith}
 use lib.ListN.{length, getD}
 use Rattle.steps.specs.declared.Taken.{Taken}
 use Rattle.steps.specs.declared.Taken.the-variants.{Done, Fault}
+use Rattle.steps.proofs.Laws.Taken.{never-both}
 use Rattle.channels_read.specs.Channel.{crateCount}
-use Rattle.flat_read.specs.Flat.{crateFlat, repeated}
+use Rattle.flat_read.specs.Flat.{crateFlat}
 use Rattle.rows_read.specs.declared.kind.Kind.{Kind}
 use Rattle.rows_read.specs.declared.kind.Kind.the-variants as kind
 use Rattle.rows_read.specs.Row.{RowParts, RowRule, isFlatWidth, isMark, kindOf, restBy, rowBy, early, proved, crateStart, crateParts, crateRow}
@@ -108,10 +109,10 @@ unfolding crateCount
 crate-count-alone = record { whole = λ src at done width k e h. omega arith; same = λ src other n at done width alike h sure. rw (byte-same src other n alike at h) }
 
 pub crate-flat-alone : FlatAlone crateFlat
-unfolding crateFlat repeated
+unfolding crateFlat
 crate-flat-alone = record {
-  onward = λ src start x h. omega arith;
-  same = λ src other n alike start x h. rw (byte-same src other n alike (x .at + 3) (omega arith), four-same src other n alike (x .at) (x .store) (x .place) h);
+  onward = λ src x h next e. never-both next 25 (sym e);
+  same = λ src other n alike x h. rw (four-same src other n alike (x .at) (x .store) (x .place) h);
 }
 
 module _ (src other : List ℕ) (n : ℕ) (alike : Alike n src other) (at : ℕ) (store : List ℕ) where
@@ -138,9 +139,9 @@ crate-parts-alone : PartsAlone 1 crateParts
 unfolding crateParts
 crate-parts-alone = record {
   start = λ src other n at store alike rests. start-alone src other n alike at store rests;
-  flat-first = λ src n at store start wanted w firm. flat-first 1 (omega arith) crateFlat crate-flat-alone src n start at store wanted w firm;
-  flat-past = λ src n at store start wanted far firm. flat-of-past 1 (omega arith) crateFlat crate-flat-alone src n start at store wanted far firm;
-  flat = λ src other n at store start wanted alike firm. flat-alone 1 (omega arith) crateFlat crate-flat-alone src other n alike start at store wanted firm;
+  flat-first = λ src n at store start wanted w firm. flat-first 1 (omega arith) crateFlat crate-flat-alone src n at store start wanted w firm;
+  flat-past = λ src n at store start wanted far firm. flat-of-past 1 (omega arith) crateFlat crate-flat-alone src n at store start wanted far firm;
+  flat = λ src other n at store start wanted alike firm. flat-alone 1 (omega arith) crateFlat crate-flat-alone src other n alike at store start wanted firm;
   channels-past = λ src n at store width far firm. channels-past 1 (omega arith) crateCount src n width at store far firm;
   channels = λ src other n at store width alike firm. channels-alone 1 (omega arith) crateCount crate-count-alone src other n alike width at store firm;
 }

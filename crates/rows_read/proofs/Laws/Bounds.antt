@@ -18,9 +18,7 @@ use Rattle.channels_read.specs.Channel.{Chan, CountRule, crateCount, channelOf,
 use Rattle.channels_read.specs.Channels.{Chans, channelsOf, chansOut, chansTurn}
 use Rattle.channels_read.proofs.Laws.Channel.{StaysInside, crate-inside, channel-cases, span-onward}
 use Rattle.channels_read.proofs.Laws.Channels.{chans-cases}
-use Rattle.flat_read.specs.Repeat.{Rep, copied, repeatOf, repeatOut, repeatTurn}
-use Rattle.flat_read.specs.Flat.{Flat, FlatRule, crateFlat, flatOf, flatOut, flatTurn, fourTo, repeated, stored}
-use Rattle.flat_read.proofs.Laws.Repeat.{repeat-cases}
+use Rattle.flat_read.specs.Flat.{Flat, FlatRule, crateFlat, flatOf, flatOut, flatTurn, fourTo}
 use Rattle.flat_read.proofs.Laws.Flat.{flat-cases}
 use Rattle.rows_read.specs.declared.kind.Kind.{Kind}
 use Rattle.rows_read.specs.declared.kind.Kind.the-variants as kind
@@ -128,22 +126,22 @@ FlatOn src limit at store x = On src limit at store (x .at) (x .store) × (x .pl
 
 pub record SoundFlat (rule : FlatRule) : Type 0 where
   pub missing : (src : List ℕ) (limit : ℕ) (x : Flat) → x .place + 4 ≤ limit → Kept limit (x .store) (rule .missing src x)
-  pub ones : (src : List ℕ) (limit at : ℕ) (store : List ℕ) (start : ℕ) (x : Flat) → 0 < x .wanted → x .at + 4 ≤ length src → FlatOn src limit at store x
-      → Leads (FlatOn src limit at store) (Sound src limit at store) (rule .ones src start x)
+  pub ones : (src : List ℕ) (limit at : ℕ) (store : List ℕ) (x : Flat) → 0 < x .wanted → x .at + 4 ≤ length src → FlatOn src limit at store x
+      → Leads (FlatOn src limit at store) (Sound src limit at store) (rule .ones src x)
 
 pub flat-sound : (rule : FlatRule) → SoundFlat rule → (src : List ℕ) (limit at : ℕ) (store : List ℕ) (start wanted : ℕ) → start + 4 * wanted ≤ limit
     → Sound src limit at store (flatOf rule src at store start wanted)
 unfolding flatOf
 flat-sound rule sound src limit at store start wanted h =
-    run-keeps (flatTurn rule src start) flatOut (FlatOn src limit at store) (Sound src limit at store) step (λ x p. sound-fault (p .0 .kept)) _ _ (on-start, h)
+    run-keeps (flatTurn rule src) flatOut (FlatOn src limit at store) (Sound src limit at store) step (λ x p. sound-fault (p .0 .kept)) _ _ (on-start, h)
   where
-    step : (x : Flat) → FlatOn src limit at store x → Leads (FlatOn src limit at store) (Sound src limit at store) (flatTurn rule src start x)
+    step : (x : Flat) → FlatOn src limit at store x → Leads (FlatOn src limit at store) (Sound src limit at store) (flatTurn rule src x)
     step x p =
-        flat-cases rule src start x (Leads (FlatOn src limit at store) (Sound src limit at store))
-        (λ w l e. sound .ones src limit at store start x w l p)
+        flat-cases rule src x (Leads (FlatOn src limit at store) (Sound src limit at store))
+        (λ w l e. sound .ones src limit at store x w l p)
         (λ w l e. (on-to (p .0) (four-kept src limit (x .at) (x .store) (x .place) (omega arith)) (omega arith) (omega arith), omega arith))
         (λ w. sound-fault (kept-then (p .0 .kept) (sound .missing src limit x (omega arith))))
-        (sound-done (p .0))
+        (λ w. sound-done (p .0))
 
 -- ---- The row, by rules for its parts
 
@@ -188,35 +186,11 @@ module _ (rule : RowRule) (sound : SoundRow rule) (src : List ℕ) (at : ℕ) (s
 
 -- ---- The crate reading
 
-copied-kept : (limit start place : ℕ) (store : List ℕ) → start + 8 ≤ limit → Kept limit store (copied start place store)
-unfolding copied
-copied-kept limit start place store h = kept-spread limit 1 store (start + 4) _ (omega (arith, length-bytes store (place - 4) 4))
-
--- a store that is kept, and room for the pixels that are wanted
-abbrev Fits : ℕ → List ℕ → ℕ → ℕ → List ℕ → Type 0
-Fits limit store place wanted s = Kept limit store s × (place + 4 * wanted ≤ limit)
-
-repeat-fits : (limit start place wanted count : ℕ) (store : List ℕ) → place + 4 * wanted ≤ limit
-    → Fits limit store (repeatOf start place wanted count store .0) (repeatOf start place wanted count store .1) (repeatOf start place wanted count store .2)
-unfolding repeatOf
-repeat-fits limit start place wanted count store h = run-keeps (repeatTurn start) repeatOut P Q step (λ x p. p) _ _ (kept-same limit store, h)
-  where
-    P : Rep → Type 0
-    P x = Fits limit store (x .place) (x .wanted) (x .store)
-
-    Q : ℕ × ℕ × List ℕ → Type 0
-    Q a = Fits limit store (a .0) (a .1) (a .2)
-
-    step : (x : Rep) → P x → Leads P Q (repeatTurn start x)
-    step x p = repeat-cases start x (Leads P Q) (λ l. (kept-then (p .0) (copied-kept limit start (x .place) (x .store) (omega arith)), omega arith)) p
-
 crate-flat : SoundFlat crateFlat
-unfolding crateFlat repeated
+unfolding crateFlat
 crate-flat = record {
   missing = λ src limit x h. four-kept src limit (x .at) (x .store) (x .place) h;
-  ones = λ src limit at store start x w l p.
-      let f = repeat-fits limit start (x .place) (x .wanted) _ (stored src x .store) (p .1) in
-      (on-to (p .0) (kept-then (four-kept src limit (x .at) (x .store) (x .place) (omega arith)) (f .0)) (omega arith) (omega arith), f .1);
+  ones = λ src limit at store x w l p. sound-fault (kept-then (p .0 .kept) (four-kept src limit (x .at) (x .store) (x .place) (omega (arith, p .1))));
 }
 
 start-kept : (src : List ℕ) (limit at : ℕ) (store : List ℕ) → 4 ≤ limit → Kept limit store (crateStart src at store)

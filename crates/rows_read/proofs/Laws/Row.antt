@@ -44,8 +44,8 @@ module _ (width : ℕ) (b : Bool) (eb : b ≡ isFlatWidth width) (t : b ≡ fals
   pub one-less : 1 ≤ width
   one-less = let l = not-flat in omega arith
 
-  pub rest-room : (start m n : ℕ) → start ≤ 4 → 4 * width ≤ m → n ≡ m → start + 4 * (width - 1) ≤ n
-  rest-room start m n s h e = let l = not-flat in omega arith
+  pub rest-room : (m n : ℕ) → 4 * width ≤ m → n ≡ m → 4 + 4 * (width - 1) ≤ n
+  rest-room m n h e = let l = not-flat in omega arith
 
 pub mark-not : (second third : ℕ) → (second ≡ 2 → ⊥) → false ≡ isMark second third
 unfolding isMark

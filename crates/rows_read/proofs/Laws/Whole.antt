@@ -152,7 +152,7 @@ module _ (src : List ℕ) (at : ℕ) (store : List ℕ) (width next : ℕ) (s : 
   flat-full : (p : ℕ) (store : List ℕ) (start wanted : ℕ) → flatOf crateFlat src p store start wanted ≡ (Done next, s) → (other : List ℕ) → Alike (length src) src other
       → flatOf crateFlat other p store start wanted ≡ (Done next, s)
   flat-full p store start wanted e other alike =
-      flat-alone 0 (omega arith) crateFlat crate-flat-alone src other (length src) alike start p store wanted (subst (λ (z : Taken × List ℕ). Rests 0 (length src) (length src) (z .0)) (sym e) (omega arith, omega arith)) ∙ e
+      flat-alone 0 (omega arith) crateFlat crate-flat-alone src other (length src) alike p store start wanted (subst (λ (z : Taken × List ℕ). Rests 0 (length src) (length src) (z .0)) (sym e) (omega arith, omega arith)) ∙ e
 
   module _ (coded : isFlatWidth width ≡ false) where
     abbrev Or : Type 0

@@ -38,7 +38,7 @@ sub-read-flat : tie.Need-sub-read-flat
 sub-read-flat c = search one-less
 
 read-flat-requires-3 : tie.Need-read-flat-requires-3
-read-flat-requires-3 c κs = (search needs, search (rest-room, needs))
+read-flat-requires-3 c κs = search (rest-room, needs)
 
 enum-known-k-2 : tie.Need-enum-known-k-2
 enum-known-k-2 c = search needs
