@@ -24,15 +24,15 @@ checked = 0
 # ---- RULES 4: rows read
 
 
-class Short(Exception):
-    pass
+class Fault(Exception):
+    """A row at fault: the number of the refusal."""
 
 
 def channel(src, at, store, first, width):
     done = 0
     while done < width:
         if at >= len(src):
-            raise Short
+            raise Fault(9)
         count = src[at]
         at += 1
         n = min(count - 128 if count > 128 else count, width - done)
@@ -48,21 +48,14 @@ def channel(src, at, store, first, width):
 
 
 def flat(src, at, store, start, wanted):
-    place, shift = start, 0
-    while wanted > 0 and shift <= 16:
+    for place in range(start, start + 4 * wanted, 4):
         four = src[at : at + 4]
         store[place : place + len(four)] = four
         if len(four) < 4:
-            raise Short
-        at += 4
+            raise Fault(9)
         if four[:3] == b"\1\1\1":
-            count = four[3] << shift
-            while wanted > 0 and place > start + 4 and count > 0:
-                store[start + 4 : start + 8] = store[place - 4 : place]
-                place, wanted, count = place + 4, max(wanted - 4, 0), count - 1
-            shift += 8
-        else:
-            place, wanted, shift = place + 4, wanted - 1, 0
+            raise Fault(25)
+        at += 4
     return at
 
 
@@ -70,13 +63,13 @@ def read_row(src, at, store, width):
     if width < 8 or width > 32767:
         return flat(src, at, store, 0, width)
     if at >= len(src):
-        raise Short
+        raise Fault(9)
     if src[at] != 2:
         return flat(src, at, store, 0, width)
     four = src[at : at + 4]
     store[1 : len(four[:3])] = four[1:3]
     if len(four) < 4:
-        raise Short
+        raise Fault(9)
     if four[1] != 2 or four[2] >= 128:
         store[0:4] = four
         return flat(src, at + 4, store, 4, width - 1)
@@ -240,8 +233,8 @@ def answer(name, file, width, height, start):
     for row in range(height):
         try:
             at = read_row(file, at, store, width)
-        except Short:
-            return [name, "  refused          number 9 in row %d (the first row is 0): *" % row]
+        except Fault as fault:
+            return [name, "  refused          number %d in row %d (the first row is 0): *" % (*fault.args, row)]
         survey.row(store, width)
     return told(name, width, height, at, len(file) - at, survey)
 
@@ -348,9 +341,16 @@ def wide():
     run("copy", "wide.hdr", "wide2.hdr")
     check("wide copied bytes", load("wide2.hdr") == data[:-3])
     old = keep("old.hdr", b"#?RGBE\n\n-Y 1 +X 4\n" + bytes([10, 10, 10, 129, 20, 20, 20, 129, 1, 1, 1, 2]))
-    expect("old runs info", answer("old.hdr", old, 4, 1, 18), 0, "info", "old.hdr")
-    expect("old runs copy", ["old.hdr", "  refused          row 0 (the first row is 0) *"], 1, "copy", "old.hdr", "old2.hdr")
+    refused = ["old.hdr", "  refused          number 25 in row 0 (the first row is 0): an old run, *"]
+    expect("old runs info", refused, 1, "info", "old.hdr")
+    expect("old runs copy", refused, 1, "copy", "old.hdr", "old2.hdr")
     check("old runs left nothing", not there("old2.hdr") and not parts())
+    keep("old.hdr", old[:-1])
+    expect("old run without its last byte", answer("old.hdr", old[:-1], 4, 1, 18), 1, "info", "old.hdr")
+    coded = keep("ones.hdr", header(8, 1) + bytes([2, 2, 0, 8]) + bytes([136, 1]) * 3 + bytes([136, 130]))
+    expect("1,1,1,n in a coded row", answer("ones.hdr", coded, 8, 1, len(header(8, 1))), 0, "info", "ones.hdr")
+    run("copy", "ones.hdr", "ones2.hdr")
+    check("1,1,1,n in a coded row copied", load("ones2.hdr") == coded)
 
 
 def cut():

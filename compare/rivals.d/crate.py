@@ -1,15 +1,15 @@
-"""The crate's way of reading, written from RULES 3 and 4: the header, the rows, the samples."""
+"""The crate's way of reading, written from RULES 3 and 4: the header, the rows, the samples. Old runs are zune-hdr's (DIFFERENCES 2), or refused (RULES 4.11)."""
 
 import numpy
 
 
 class Refused(Exception):
-    """A refusal: its number, and the row of number 9."""
+    """A refusal: its number, and the row of numbers 9 and 25."""
 
 
 class Input:
-    def __init__(self, data):
-        self.data, self.place, self.row = data, 0, 0
+    def __init__(self, data, old_runs):
+        self.data, self.place, self.row, self.old_runs = data, 0, 0, old_runs
 
     def byte(self):
         if self.place == len(self.data):
@@ -56,6 +56,8 @@ def flat_part(source, store, start, wanted):
         if store[place:place + 3] != b"\x01\x01\x01":
             place, wanted, shift = place + 4, wanted - 1, 0
             continue
+        if not source.old_runs:
+            raise Refused(25, source.row)
         count = store[place + 3] << shift
         while wanted > 0 and place - start > 4 and count > 0:
             store[start + 4:start + 8] = store[place - 4:place]
@@ -98,9 +100,9 @@ def sample(m, e):
     return m * 2.0 ** (k - 8 if d > 0 else -k - 8)
 
 
-def read(data, limit):
+def read(data, limit, old_runs):
     """Width, height and samples; or a refusal is raised. Output and row store are taken to be enough."""
-    source = Input(data)
+    source = Input(data, old_runs)
     width, height = header(source)
     if height > limit or width > limit:
         raise Refused(4 if height > limit else 5)

@@ -21,10 +21,10 @@ def same(found, wanted):
     return len(found) == len(wanted) and bool(numpy.all((found == wanted) | numpy.isnan(wanted)))
 
 
-def by_crate(case, done, limit=2**32):
-    """Whether the reading is the one of the crate's rule under a limit for both sizes."""
+def by_crate(case, done, limit=2**32, old_runs=True):
+    """Whether the reading is the one of the crate's rule under a limit for both sizes, with its old runs or without."""
     try:
-        width, height, samples = crate.read(case.data, limit)
+        width, height, samples = crate.read(case.data, limit, old_runs)
     except crate.Refused as refused:
         number, *row = refused.args
         words = f"refusal {number}" + "".join(f" in row {y}" for y in row)

@@ -99,10 +99,7 @@ fn fewer_bytes_are_refused_as_where_memory_is_lent() {
 
 #[test]
 fn no_rows_take_no_bytes() {
-    let file = header(20, 0);
-    assert_eq!(HdrDecoder::new(&file).decode(), Ok(vec![]));
-    assert_eq!(
-        HdrDecoder::new(header(0, 3)).decode(),
-        Err(HdrError::NoWidth)
-    );
+    let decoded = |file: &[u8]| HdrDecoder::new(file).decode();
+    assert_eq!(decoded(&header(20, 0)), Ok(vec![]));
+    assert_eq!(decoded(&header(0, 3)), Err(HdrError::NoWidth));
 }

@@ -39,13 +39,20 @@ fn a_few_bytes_that_say_an_immense_picture_ask_for_little_memory() {
     let cases = [
         (65_535, vec![9; 5], HdrError::BytesEnd { row: 0 }),
         (65_535, vec![1, 1, 1, 5], HdrError::OldRun { row: 0 }),
-        (65_535, pixel.repeat(3 * 65_535), HdrError::BytesEnd { row: 3 }),
+        (
+            65_535,
+            pixel.repeat(3 * 65_535),
+            HdrError::BytesEnd { row: 3 },
+        ),
         (32_767, coded.repeat(2), HdrError::BytesEnd { row: 2 }),
         (1, pixel.repeat(70), HdrError::BytesEnd { row: 70 }),
     ];
     for (width, rows, refusal) in cases {
         let (found, most) = told(width, &rows);
         assert_eq!(found, refusal);
-        assert!(most <= 191 * (rows.len() + 30) + 12 * width, "{most} bytes at width {width}");
+        assert!(
+            most <= 191 * (rows.len() + 30) + 12 * width,
+            "{most} bytes at width {width}"
+        );
     }
 }
