@@ -35,8 +35,8 @@
  *   - +X w -Y h is read row by row, as -Y h +X w is, though by the document it lies column by column.
  *   - Header lines are passed over. EXPOSURE is not applied, and FORMAT is not looked at: samples of a file that
  *     states 32-bit_rle_xyze are X, Y and Z.
- *   - A flat row with an old run (a pixel 1, 1, 1, n) is refusal 25: zune-hdr's way with them gives other pixels than the
- *     document's. Such files wait for a reading by the document.
+ *   - A flat row with an old run (a pixel 1, 1, 1, n) is refusal 25: zune-hdr's way with them gives other pixels than
+ *     the document's. Such files wait for a reading by the document.
  *   - The format has no checksum: damage that leaves enough bytes is read as some other picture.
  *
  * THE WRITING. A negative sample and one that is no number are written as 0, and a pixel whose largest sample is not
@@ -129,14 +129,15 @@ DOORWHISP_HERE const char *doorwhisp_words(uint64_t refusal) {
 }
 
 /*
- * How many bytes the rows of a picture take at least, for sizes up to 65,535 as doorwhisp_read_header answers them.
- * A file with fewer bytes after its header is refused by 9 or 25 in some row, so that no memory need be had for it: that
- * is proved of doorwhisp_read (crates/kept/specs/Least.antt has this definition). A file with as many bytes asks for
- * less than 191 times their number for its samples.
+ * How many rows of a width up to 65,535 so many bytes can hold at most; 2^64 - 1 of width 0. A picture that is higher
+ * than what follows its header can hold is refused by 9 or 25 in one of these rows or the next: so no memory need be
+ * had for more. That is proved of doorwhisp_read (crates/kept/specs/Least.antt). The samples of these rows are less
+ * than 191 times as many bytes.
  */
-DOORWHISP_HERE uint64_t doorwhisp_least(uint64_t width, uint64_t height) {
-    if (width < 8 || width > 32767) return height * (4 * width);
-    return height > 0 ? height * (4 + 8 * ((width + 125) / 127)) - 1 : 0;
+DOORWHISP_HERE uint64_t doorwhisp_most_rows(uint64_t width, uint64_t bytes) {
+    if (width == 0) return (uint64_t)-1;
+    if (width < 8 || width > 32767) return bytes / (4 * width);
+    return (bytes + 1) / (4 + 8 * ((width + 125) / 127));
 }
 
 /* ---- Reading ---- */

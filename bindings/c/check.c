@@ -109,12 +109,15 @@ static void hold_old_runs(void) {
     hold(answer.refusal == DOORWHISP_BYTES_END && answer.place == 1, "refusal 9 in row 1", 0);
 }
 
-/* How few bytes the rows take, where the rule changes. */
-static void hold_least(void) {
-    hold(doorwhisp_least(7, 3) == 84 && doorwhisp_least(32768, 1) == 131072, "four to a pixel", 0);
-    hold(doorwhisp_least(8, 2) == 23 && doorwhisp_least(128, 1) == 11, "a mark and four counts", 0);
-    hold(doorwhisp_least(129, 1) == 19 && doorwhisp_least(32767, 1) == 2067, "a count for 127", 0);
-    hold(doorwhisp_least(8, 0) == 0 && doorwhisp_least(0, 9) == 0, "no pixels", 0);
+/* How many rows so many bytes can hold, where the rule changes. */
+static void hold_most_rows(void) {
+    hold(doorwhisp_most_rows(7, 83) == 2 && doorwhisp_most_rows(7, 84) == 3, "four bytes to a pixel", 7);
+    hold(doorwhisp_most_rows(32768, 131071) == 0 && doorwhisp_most_rows(32768, 131072) == 1, "the same", 32768);
+    hold(doorwhisp_most_rows(8, 22) == 1 && doorwhisp_most_rows(8, 23) == 2, "a mark and four counts", 8);
+    hold(doorwhisp_most_rows(128, 10) == 0 && doorwhisp_most_rows(128, 11) == 1, "a mark and four counts", 128);
+    hold(doorwhisp_most_rows(129, 18) == 0 && doorwhisp_most_rows(129, 19) == 1, "a count for 127", 129);
+    hold(doorwhisp_most_rows(32767, 2066) == 0 && doorwhisp_most_rows(32767, 2067) == 1, "a count for 127", 32767);
+    hold(doorwhisp_most_rows(0, 0) == (uint64_t)-1, "no width", 0);
 }
 
 /* 10000 * major + 100 * minor + patch is the number of the version. */
@@ -129,7 +132,7 @@ int main(void) {
     hold_exponents();
     hold_cuts();
     hold_old_runs();
-    hold_least();
+    hold_most_rows();
     hold_header();
     hold_writing();
     hold_version();

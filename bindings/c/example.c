@@ -8,6 +8,7 @@
  */
 #include <stdio.h>
 #include <stdlib.h>
+#include <string.h>
 
 #include "doorwhisp.h"
 
@@ -31,46 +32,58 @@ static void print_range(const float *samples, size_t count) {
     printf(", samples from %g to %g", darkest, brightest);
 }
 
-/* Whether there may be bytes for all the rows after a header, so that it is worth to ask for memory; else says so. */
-static int may_hold_rows(const char *name, const doorwhisp_answer *head, size_t length) {
-    const uint64_t least = doorwhisp_least(head->width, head->height), found = length - head->taken;
-    if (found >= least) return 1;
-    printf("%s: refused: rows without old runs take %lu bytes at least, and %lu follow its header\n", name,
-           (unsigned long)least, (unsigned long)found);
-    return 0;
-}
-
-/* Reads a picture that is in memory, and says what it is. */
-static int show(const char *name, const uint8_t *bytes, size_t length) {
-    doorwhisp_answer answer;
-    size_t count, row;
-    float *out;
-    uint8_t *store;
-
-    doorwhisp_read_header(bytes, length, 65535, 65535, &answer);
-    if (answer.refusal != 0) return refused(name, &answer);
-    if (!may_hold_rows(name, &answer, length)) return 1;
-    count = 3 * (size_t)answer.width * (size_t)answer.height;
-    row = 4 * (size_t)answer.width;
-    out = malloc(count * sizeof *out + 1);
-    store = malloc(row + 1);
+/* Reads a picture that is in memory and whose header says these sizes, and says what it is. */
+static int show_rows(const char *name, const uint8_t *bytes, size_t length, size_t width, size_t height) {
+    const size_t count = 3 * width * height, row = 4 * width;
+    float *out = malloc(count * sizeof *out + 1);
+    uint8_t *store = malloc(row + 1);
+    int status = 1;
     if (out == NULL || store == NULL) {
         printf("%s: no memory\n", name);
-        answer.refusal = 1;
     } else {
+        doorwhisp_answer answer;
         doorwhisp_read(bytes, length, 65535, 65535, out, count, store, row, &answer);
-        if (answer.refusal != 0) {
+        status = answer.refusal != 0;
+        if (status) {
             refused(name, &answer);
         } else {
-            printf("%s: %lu by %lu pixels, %lu of %lu bytes taken", name, (unsigned long)answer.width,
-                   (unsigned long)answer.height, (unsigned long)answer.taken, (unsigned long)length);
+            printf("%s: %lu by %lu pixels, %lu of %lu bytes taken", name, (unsigned long)width, (unsigned long)height,
+                   (unsigned long)answer.taken, (unsigned long)length);
             print_range(out, count);
             printf("\n");
         }
     }
     free(out);
     free(store);
-    return answer.refusal != 0;
+    return status;
+}
+
+/* Says why a picture is refused within its first rows, which its bytes cannot hold: these are read alone. */
+static int show_first(const char *name, const uint8_t *rows, size_t length, size_t width, size_t height) {
+    char header[64];
+    const int start = sprintf(header, "#?RGBE\n\n-Y %lu +X %lu\n", (unsigned long)height, (unsigned long)width);
+    uint8_t *file = malloc((size_t)start + length);
+    int status = 1;
+    if (file == NULL) {
+        printf("%s: no memory\n", name);
+    } else {
+        memcpy(file, header, (size_t)start);
+        memcpy(file + start, rows, length);
+        status = show_rows(name, file, (size_t)start + length, width, height);
+    }
+    free(file);
+    return status;
+}
+
+/* Reads a picture that is in memory, and says what it is. Memory is asked for rows that its bytes can hold, and one. */
+static int show(const char *name, const uint8_t *bytes, size_t length) {
+    doorwhisp_answer head;
+    uint64_t most;
+    doorwhisp_read_header(bytes, length, 65535, 65535, &head);
+    if (head.refusal != 0) return refused(name, &head);
+    most = doorwhisp_most_rows(head.width, length - head.taken);
+    if (most < head.height) return show_first(name, bytes + head.taken, length - head.taken, head.width, most + 1);
+    return show_rows(name, bytes, length, head.width, head.height);
 }
 
 /* Reads a file into memory; the caller frees it. Answers a null pointer where the file cannot be had. */

@@ -18,11 +18,11 @@ fn shortest_rows(width: usize, height: usize) -> Vec<u8> {
     if !(8..=32_767).contains(&width) {
         return [9, 9, 9, 129].repeat(width * height);
     }
-    let channel = [255, 7].repeat(width.div_ceil(127));
+    let channel = [255, 7].repeat((width + 126) / 127);
     let mark = [2, 2, (width / 256) as u8, width as u8];
     let mut rows = [&mark[..], &channel.repeat(4)].concat().repeat(height);
     rows.truncate(rows.len() - channel.len());
-    rows.extend([255, 7].repeat((width - 1).div_ceil(127) - 1));
+    rows.extend([255, 7].repeat((width - 2) / 127));
     rows.push(if width % 127 == 1 { 128 } else { 255 });
     rows
 }
@@ -30,7 +30,7 @@ fn shortest_rows(width: usize, height: usize) -> Vec<u8> {
 /// How many bytes are wanted.
 fn least(width: usize, height: usize) -> usize {
     match width {
-        8..=32_767 => height * (4 + 8 * (width - 1).div_ceil(127)) - 1,
+        8..=32_767 => height * (4 + 8 * ((width - 2) / 127 + 1)) - 1,
         _ => 4 * width * height,
     }
 }
