@@ -86,8 +86,8 @@ fn read(max_width: usize, max_height: usize, length: usize, store: usize, bytes:
         (Read::Sizes { width, height }, None) => format!("0 0 {width} {height} {} ", reading.taken),
     };
     push_buffers(&mut text, &reading.output, reading.store.as_deref(), store);
-    let at_end = if old_run.is_some() { Default::default() } else { reading.at_end };
-    Answer { line: text, at_end, old_run: old_run.is_some() }
+    let met = text.starts_with("25 ");
+    Answer { line: text, at_end: if met { Default::default() } else { reading.at_end }, old_run: met }
 }
 
 /// RULES 4.11: the fourth byte stands in the store behind the 1,1,1 that the crate, which misses it, has put there in this row.

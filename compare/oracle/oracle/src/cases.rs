@@ -165,7 +165,7 @@ fn flat_pixels(sink: Sink) {
     }
 }
 
-/// Every list of up to five pixels, among them repeats, in flat rows and after a pixel that starts with 2.
+/// Every list of up to five pixels, among them old runs, in flat rows and after a pixel that starts with 2.
 fn old_runs(sink: Sink) {
     const KIND: &str = "old runs, every short list";
     let pixels: Vec<Vec<u8>> =
@@ -184,7 +184,7 @@ fn old_runs(sink: Sink) {
 /// Every four bytes over seven letters at the start of a row, with coded channels or flat pixels after them.
 fn marks(sink: Sink) {
     const KIND: &str = "marks, every four bytes";
-    let rest = [136, 7, 136, 6, 136, 5, 136, 130, 4, 5, 6, 129, 0, 0, 0, 0, 1, 1, 1, 1, 7, 7, 7, 7, 8, 8, 8, 8];
+    let rest = [136, 7, 136, 6, 136, 5, 136, 130, 4, 5, 6, 129, 0, 0, 0, 0, 1, 1, 2, 1, 7, 7, 7, 7, 8, 8, 8, 8];
     for width in [7, 8, 9] {
         lists(&single(&[0, 1, 2, 3, 127, 128, 255]), 4, &mut |mark| {
             sink(read_picture(KIND, width, 1, &[header(width, 1), mark.to_vec(), rest.to_vec()].concat()));
@@ -369,12 +369,12 @@ fn size_text(random: &mut Random) -> Vec<u8> {
     }
 }
 
-/// A pixel that is often like a mark, a repeat or black.
+/// A pixel that is often like a mark or an old run, sometimes one, or black.
 fn pixel(random: &mut Random) -> [u8; 4] {
     match random.below(10) {
         0 => [2, 2, random.byte(), random.byte()],
         1 => [2, random.byte(), random.byte(), random.byte()],
-        2 => [1, 1, 1, random.one_of(&[0, 1, 2, 3, 4, 255])],
+        2 => [1, 1, random.one_of(&[0, 1, 2, 128]), random.one_of(&[0, 1, 2, 3, 4, 255])],
         3 => [random.byte(), 0, 255, 0],
         _ => [random.byte(), random.byte(), random.byte(), random.byte()],
     }
@@ -469,7 +469,7 @@ fn random_rows(seed: u64, count: usize, sink: Sink) {
     }
 }
 
-/// Flat rows made mostly of repeats.
+/// Flat rows made mostly of old runs.
 fn random_old_runs(seed: u64, count: usize, sink: Sink) {
     let mut random = Random::new(seed, "old runs");
     for _ in 0..count {
