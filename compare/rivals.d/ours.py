@@ -33,7 +33,7 @@ def called(path):
 
 
 def refusal(answer):
-    return f"error refusal {answer[0]}" + (f" in row {answer[1]}" if answer[0] == "9" else "")
+    return f"error refusal {answer[0]}" + (f" in row {answer[1]}" if answer[0] in ("9", "25") else "")
 
 
 def read(path, out):

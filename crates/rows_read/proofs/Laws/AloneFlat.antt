@@ -1,6 +1,6 @@
 -- Bytes behind those that an answer rests on change nothing: a flat part, by any rule that looks at the four bytes of 1,1,1,n alone.
 use Prim.Native.Nat.{ℕ, suc, _+_, _-_, min, _<_, _≤_}
-use mathlib.Core.Bool.{Bool, true, false, false≢true}
+use mathlib.Core.Bool.{Bool, true, false}
 use mathlib.Core.List.{List}
 use mathlib.Core.Path.{_≡_, refl, sym, subst, _∙_}
 use native.Mathlib.Omega.{arith}
@@ -8,7 +8,7 @@ use borrow.Author.Tests.{le-ltb, ltb-true}
 use lib.Dec.{ltb}
 use lib.ListN.{length}
 use Rattle.steps.specs.Loop.{Turn, more, halt, run, lead}
-use Rattle.steps.proofs.Laws.Turns.{by-test, Leads, Falls, run-keeps, enough-turns}
+use Rattle.steps.proofs.Laws.Turns.{Leads, Falls, run-keeps, enough-turns}
 use Rattle.steps.proofs.Laws.Machines.{same-run}
 use Rattle.steps.specs.declared.Taken.{Taken}
 use Rattle.steps.specs.declared.Taken.the-variants.{Done}
