@@ -37,7 +37,7 @@ stored src x = flat (x .at) (x .place) (x .wanted) (fourTo src (x .at) (x .store
 pub record FlatRule : Type 0 where
   -- with a pixel of which bytes are missing: the store afterwards
   pub missing : List ℕ → Flat → List ℕ
-  -- with a pixel 1,1,1,n of which none is
+  -- with a pixel 1,1,1,n of which none is missing
   pub ones : List ℕ → Flat → Turn Flat (Taken × List ℕ)
 
 -- The crate reading: "four bytes, each missing one refused, go one by one as read to the current place"; those of 1,1,1,n too, which is

@@ -9,7 +9,7 @@ use Rattle.rows_read.specs.Row.{isFlatWidth}
 abbrev pub AreBytes : List ℕ → Type 0
 AreBytes bytes = (i : ℕ) → getD bytes i 0 < 256
 
--- how many counts the bytes of a channel take: one is for at most 127, but for the last of all, whose bytes may be missing: it is for at most 128
+-- how many counts a channel takes at least: one is for at most 127 of its bytes, and the last of all, whose bytes may be missing, for at most 128
 abbrev pub countsOf : ℕ → ℕ
 countsOf width = (width + 125) / 127
 

@@ -23,7 +23,7 @@ use Rattle.steps.proofs.Laws.Place.{length-spread}
 use Rattle.pixel.specs.declared.Pixel.{Pixel}
 use Rattle.header.specs.declared.Head.{Head}
 use Rattle.header.specs.Head.{headChecks, fieldsOf, headOf, taking}
-use Rattle.rows_read.specs.Row.{RowRule, crateRow, CrateFault}
+use Rattle.rows_read.specs.Row.{RowRule, crateRow}
 use Rattle.rows_read.proofs.Laws.Kept.{Kept, kept-same, kept-then, kept-spread}
 use Rattle.rows_read.proofs.Laws.Bounds.{SoundRow, crate-sound}
 use Rattle.pixel.specs.Rgbe.{rgbeAt}
@@ -31,7 +31,6 @@ use Rattle.reader.specs.Samples.{SampleRule, three, placed}
 use Rattle.reader.specs.Frame.{Stored, storedOf, cleared, stepOf, Left, rows, rowTurn, noRows, rowsOf}
 use Rattle.reader.specs.Read.{frameChecks, answerOf, framed, cratePixel, readBy}
 use Rattle.reader.proofs.Laws.Frame.{faulted, went-on, rows-start, rows-done, rows-fault, rows-again}
-use Rattle.reader.proofs.Laws.Read.{rows-number}
 use Rattle.kept.specs.Back.{pixel, Beyond}
 use Rattle.kept.specs.Lent.{onward, before, rowAt, Stand, RowsRead, RowsLeft, FrameLeft, earlyChecks, ReadLeft}
 
@@ -351,19 +350,3 @@ lent-done bytes widest highest out store head e =
         subst (λ (n : ℕ). Beyond (3 * n) out o) area
         (stand-beyond cratePixel (storedOf h) _ (h .height) (h .height * h .width) out o (left .0 .stand) (λ k i l j. row-under k (h .height) (h .width) i l j))
     by-answer h (refused n k) o s e left = absurd (differ head n k (sym e))
-
--- a refusal other than 9 and 25 leaves the output and the row store as lent
-pub lent-refused : (bytes : List ℕ) (widest highest : ℕ) (out : List Float) (store : List ℕ) (number place : ℕ) → (CrateFault number → ⊥)
-    → readBy crateRow cratePixel bytes widest highest out store .0 ≡ refused number place → readBy crateRow cratePixel bytes widest highest out store ≡ (refused number place, out, store)
-lent-refused bytes widest highest out store number place other e =
-    ⊎-elim
-    (λ f. let is = at-once crateRow cratePixel bytes widest highest out store (f .0) (f .1) in
-    is ∙ ap (λ (a : Answer Head). (a, out, store)) (sym (ap (λ (z : Answer Head × List Float × List ℕ). z .0) is) ∙ e))
-    (λ p. let is = by-rows crateRow cratePixel bytes widest highest out store p in
-    absurd (other (by-number (headOf (fieldsOf bytes)) _ (sym (ap (λ (z : Answer Head × List Float × List ℕ). z .0) is) ∙ e)
-    (λ n k r. rows-number cratePixel bytes (storedOf (headOf (fieldsOf bytes))) (headOf (fieldsOf bytes) .taken) out (cleared (storedOf (headOf (fieldsOf bytes)) .long) store) n k r))))
-    (fails-or-passed (earlyChecks bytes widest highest out store))
-  where
-    by-number : (head : Head) (a : Answer ℕ) → answerOf head a ≡ refused number place → ((n k : ℕ) → a ≡ refused n k → CrateFault n) → CrateFault number
-    by-number head (done next) e faults = absurd (let z : _≡_ {A = ℕ} 0 1 = cc in omega arith)
-    by-number head (refused n k) e faults = let same : n ≡ number = cc in subst CrateFault same (faults n k refl)

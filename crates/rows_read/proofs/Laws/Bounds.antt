@@ -4,10 +4,9 @@ use Prim.Native.Nat.{ℕ, _+_, _-_, _*_, min, _<_, _≤_}
 use native.Mathlib.Omega.{arith}
 use mathlib.Core.List.{List}
 use mathlib.Core.Bool.{false}
-use mathlib.Core.Path.{_≡_, refl, sym, ap, subst}
+use mathlib.Core.Path.{_≡_, refl, sym, subst}
 use lib.ListN.{length, getD, length-replicate}
 use lib.Dec.{eqb}
-use lib.Seq.{getD-drop}
 use Rattle.steps.specs.Place.{bytesFrom}
 use Rattle.steps.proofs.Laws.Place.{length-bytes}
 use Rattle.steps.proofs.Laws.Turns.{by-test, Leads, run-keeps}
@@ -172,13 +171,6 @@ module _ (rule : RowRule) (sound : SoundRow rule) (src : List ℕ) (at : ℕ) (s
   -- the store keeps its length
   pub row-length : length (rule src at store width .1) ≡ length store
   row-length = sound src at store width .kept .long
-
-  -- what lies beyond the row's 4w bytes is unchanged
-  pub row-beyond : (i : ℕ) → 4 * width ≤ i → getD (rule src at store width .1) i 0 ≡ getD store i 0
-  row-beyond i h =
-      let e : 4 * width + (i - 4 * width) ≡ i = omega arith in
-      let f = ap (λ (l : List ℕ). getD l (i - 4 * width) 0) (sound src at store width .kept .beyond) in
-      simp (getD-drop, e) at f
 
   -- the next place is not before the row, and not past the end
   pub row-onward : (next : ℕ) → rule src at store width .0 ≡ Done next → at ≤ length src → (at ≤ next) × (next ≤ length src)
