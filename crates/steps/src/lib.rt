@@ -8,6 +8,12 @@ ghost use lib.ListN.{length, getD, replicate};
 ghost use Rattle.steps.specs.Place.{spread, bytesFrom};
 ghost use Rattle.steps.specs.Width.{isCoded};
 
+// How a file is read: as the crate zune-hdr reads it, or by the Radiance document.
+pub enum Reading {
+    Crate,
+    Document,
+}
+
 // What reading a row, or a part of one, answers: the next place in the input, or the number of the refusal that the row is at fault by.
 pub enum Taken {
     Done { next: usize },

@@ -32,4 +32,6 @@ pub const TOO_BRIGHT: u8 = 12;
 
 pub const NO_ROOM: u8 = 13;
 
+pub const BROKEN_ROW: u8 = 14;
+
 pub const OLD_RUN: u8 = 25;
