@@ -8,6 +8,8 @@ use Rattle.steps.specs.Loop.{pick, Turn, more, halt, run}
 use Rattle.steps.specs.Place.{bytesFrom, spread}
 use Rattle.steps.specs.declared.Taken.{Taken}
 use Rattle.steps.specs.declared.Taken.the-variants.{Done, Fault}
+use Rattle.steps.specs.declared.Reading.{Reading}
+use Rattle.steps.specs.declared.Reading.the-variants.{Crate, Document}
 
 -- how far a channel is: the next place in the input, how many of its bytes are done, and the row store
 pub record Chan : Type 0 where
@@ -49,10 +51,12 @@ spanOf src channel c n x = record {
 
 -- ---- What a reading does with a count
 
--- so many of the bytes that it asks for are put into the channel; or the row is at fault, by the number of its refusal
+-- so many of the bytes that it asks for are put into the channel; or the row is at fault, by the number of its refusal; or so many literal
+-- bytes are put, and then the row is at fault by 9, since the next is missing
 pub data Count : Type 0 where
   span : ℕ → Count
   fault : ℕ → Count
+  short : ℕ → Count
 
 -- of the input, the count's place, how many bytes of the channel are done, and the width
 abbrev pub CountRule : Type 0
@@ -62,12 +66,34 @@ CountRule = List ℕ → ℕ → ℕ → ℕ → Count
 unfoldable pub crateCount : CountRule
 crateCount src at done width = span (min (spanLength (getD src at 0)) (width - done))
 
+-- how many bytes stand behind a count
+abbrev pub behind : List ℕ → ℕ → ℕ
+behind src at = length src - (at + 1)
+
+-- "missing bytes are 9 always": of a run nothing is put, and of literals those that are there
+abbrev pub lacking : List ℕ → ℕ → ℕ → Count
+lacking src at c = pick (isRun c) (fault 9) (short (behind src at))
+
+-- the document reading: 14 for "a count .. that passes the row's end", before its bytes are looked at; "a count .. at fault writes nothing"
+unfoldable pub documentCount : CountRule
+documentCount src at done width =
+    let c = getD src at 0 in
+    let n = spanLength c in
+    pick (ltb (width - done) n) (fault 14)
+    (pick (ltb (behind src at) (spanTaken c n)) (lacking src at c) (span n))
+
+-- by either reading
+abbrev pub countRule : Reading → CountRule
+countRule Crate = crateCount
+countRule Document = documentCount
+
 -- ---- The channel, by any such rule
 
 -- what a count does: its bytes are put, or the row is at fault
 abbrev pub counted : List ℕ → ℕ → Chan → Count → Turn Chan (Taken × List ℕ)
 counted src channel x (span n) = more (spanOf src channel (getD src (x .at) 0) n x)
 counted src channel x (fault number) = halt (Fault number, x .store)
+counted src channel x (short n) = halt (Fault 9, spanOf src channel (getD src (x .at) 0) n x .store)
 
 -- one more count, until the row's end; "A missing count is refusal 9"
 unfoldable pub channelTurn : CountRule → List ℕ → ℕ → ℕ → Chan → Turn Chan (Taken × List ℕ)

@@ -1,18 +1,23 @@
 -- The laws of `specs/Channel.antt`: of a span, of a rule for counts, and of the channel by any such rule.
+use Prim.{Unit}
 use Prim.Native.Nat.{ℕ, _+_, _-_, _*_, min, _<_, _≤_}
 use native.Mathlib.Omega.{arith}
+use mathlib.Core.Bool.{Bool, true, false}
 use mathlib.Core.List.{List}
-use mathlib.Core.Path.{_≡_, refl, ap, _∙_}
+use mathlib.Core.Path.{_≡_, refl, sym, ap, _∙_}
 use borrow.Author.Tests.{lt-ltb, le-ltb, ltb-true, ltb-false}
 use lib.Dec.{ltb}
 use lib.ListN.{length, getD, replicate}
 use Rattle.steps.specs.Loop.{Turn, more, halt, run}
 use Rattle.steps.specs.Place.{bytesFrom, spread}
-use Rattle.steps.proofs.Laws.Loop.{Runs, runs-start, runs-more}
+use Rattle.steps.proofs.Laws.Loop.{Runs, runs-start, runs-more, runs-halt}
+use Rattle.steps.proofs.Laws.Order.{by-order}
 use Rattle.steps.proofs.Laws.Turns.{by-test, Falls, never-out}
 use Rattle.steps.specs.declared.Taken.{Taken}
 use Rattle.steps.specs.declared.Taken.the-variants.{Done, Fault}
-use Rattle.channels_read.specs.Channel.{Chan, chan, Count, span, fault, CountRule, crateCount, counted, channelOf, channelOut, channelTurn, isRun, spanBytes, spanLength, spanOf, spanTaken}
+use Rattle.steps.specs.declared.Reading.{Reading}
+use Rattle.steps.specs.declared.Reading.the-variants.{Crate, Document}
+use Rattle.channels_read.specs.Channel.{Chan, chan, Count, span, fault, short, CountRule, crateCount, documentCount, countRule, behind, lacking, counted, channelOf, channelOut, channelTurn, isRun, spanBytes, spanLength, spanOf, spanTaken}
 
 -- ---- A span
 
@@ -54,9 +59,14 @@ span-onward src channel c n x h = omega arith
 
 -- ---- What a rule for counts may promise
 
--- no span passes the row's end
+-- no bytes are put past the row's end
+abbrev pub PutsInside : ℕ → ℕ → Count → Type 0
+PutsInside done width (span n) = done + n ≤ width
+PutsInside done width (fault number) = Unit {0}
+PutsInside done width (short n) = done + n ≤ width
+
 abbrev pub StaysInside : CountRule → Type 0
-StaysInside rule = (src : List ℕ) (at done width n : ℕ) → done < width → rule src at done width ≡ span n → done + n ≤ width
+StaysInside rule = (src : List ℕ) (at done width : ℕ) → done < width → PutsInside done width (rule src at done width)
 
 -- a count that fits into the row, with all its bytes there, is taken whole
 abbrev pub TakesWhole : CountRule → Type 0
@@ -65,9 +75,7 @@ TakesWhole rule =
 
 pub crate-inside : StaysInside crateCount
 unfolding crateCount
-crate-inside src at done width n h e =
-    let f : min (spanLength (getD src at 0)) (width - done) ≡ n = cc in
-    omega arith
+crate-inside src at done width h = omega arith
 
 -- what the code finds of a count
 pub crate-count : (src : List ℕ) (p done width c m n : ℕ) → c ≡ getD src p 0 → m ≡ spanLength c → n ≡ min m (width - done) → crateCount src p done width ≡ span n
@@ -77,16 +85,89 @@ crate-count src p done width c m n ec em en = rw (en, em, ec)
 pub crate-whole : TakesWhole crateCount
 crate-whole src at done width c n ec en h k = crate-count src at done width c n n ec en (omega arith)
 
+-- ---- The document reading
+
+-- what a count takes is no more than it asks for
+taken-most : (c : ℕ) → spanTaken c (spanLength c) ≤ spanLength c
+taken-most c =
+    by-order 128 c (λ h. omega (arith, taken-run c (spanLength c) h, length-run c h)) (λ h. omega (arith, taken-literals c (spanLength c) h))
+
+pub lacks-run : (there c n : ℕ) → 128 < c → ltb there 1 ≡ ltb there (spanTaken c n)
+lacks-run there c n h = rw (taken-run c n h)
+
+pub lacks-literals : (there c n : ℕ) → c ≤ 128 → ltb there n ≡ ltb there (spanTaken c n)
+lacks-literals there c n h = rw (taken-literals c n h)
+
+pub lacking-run : (src : List ℕ) (p c : ℕ) → 128 < c → lacking src p c ≡ fault 9
+unfolding isRun
+lacking-run src p c h = simp (lt-ltb 128 c h)
+
+pub lacking-literals : (src : List ℕ) (p c : ℕ) → c ≤ 128 → lacking src p c ≡ short (behind src p)
+unfolding isRun
+lacking-literals src p c h = simp (le-ltb 128 c h)
+
+-- what the code puts of a count that lacks bytes
+pub put-none : (src : List ℕ) (channel p done c : ℕ) (store : List ℕ) → 128 < c → counted src channel (chan p done store) (lacking src p c) ≡ halt (Fault 9, store)
+put-none src channel p done c store h = rw (lacking-run src p c h)
+
+pub put-some : (src : List ℕ) (channel p done c next done′ n : ℕ) (store store′ : List ℕ) → c ≤ 128 → c ≡ getD src p 0 → n ≡ length src
+    → chan next done′ store′ ≡ spanOf src channel c (n - (p + 1)) (chan p done store) → counted src channel (chan p done store) (lacking src p c) ≡ halt (Fault 9, store′)
+put-some src channel p done c next done′ n store store′ h ec en e = rw (lacking-literals src p c h, ← ec, ← en, ← e)
+
+module _ (src : List ℕ) (p done width c n : ℕ) (ec : c ≡ getD src p 0) (en : n ≡ spanLength c) where
+  pub document-past : width - done < n → documentCount src p done width ≡ fault 14
+  unfolding documentCount
+  document-past h = rw (← ec, ← en) (simp (lt-ltb (width - done) n h))
+
+  module _ (h : n ≤ width - done) (b : Bool) (eb : b ≡ ltb (behind src p) (spanTaken c n)) where
+    pub document-lacks : b ≡ true → documentCount src p done width ≡ lacking src p c
+    unfolding documentCount
+    document-lacks t = rw (← ec, ← en) (simp (le-ltb (width - done) n h, sym eb ∙ t))
+
+    pub document-span : b ≡ false → documentCount src p done width ≡ span n
+    unfolding documentCount
+    document-span t = rw (← ec, ← en) (simp (le-ltb (width - done) n h, sym eb ∙ t))
+
+    -- so many bytes have room in the row
+    pub lacking-room : b ≡ true → (m m′ : ℕ) → done < width → 4 * width ≤ m → m′ ≡ m → 4 * (done + behind src p) ≤ m′
+    lacking-room t m m′ d l e =
+        let short = ltb-true (behind src p) (spanTaken c n) (sym eb ∙ t) in
+        let most : spanTaken c n ≤ n = rw en (taken-most c) in
+        omega arith
+
+pub document-whole : TakesWhole documentCount
+document-whole src at done width c n ec en h k = document-span src at done width c n ec en (omega arith) false (sym (le-ltb (behind src at) (spanTaken c n) (omega arith))) refl
+
+pub document-inside : StaysInside documentCount
+unfolding documentCount
+document-inside src at done width h =
+    let c : ℕ = getD src at 0 in
+    let n : ℕ = spanLength c in
+    by-test (PutsInside done width) (ltb (width - done) n) (λ t. tt)
+    (λ t. let l = ltb-false (width - done) n t in
+    by-test (PutsInside done width) (ltb (behind src at) (spanTaken c n))
+    (λ u. let s = ltb-true (behind src at) (spanTaken c n) u in by-test (PutsInside done width) (isRun c) (λ _. tt) (λ _. omega (arith, taken-most c)))
+    (λ u. omega arith))
+
+pub reading-inside : (reading : Reading) → StaysInside (countRule reading)
+reading-inside Crate = crate-inside
+reading-inside Document = document-inside
+
+pub reading-whole : (reading : Reading) → TakesWhole (countRule reading)
+reading-whole Crate = crate-whole
+reading-whole Document = document-whole
+
 -- ---- A turn
 
 -- case by case
 pub channel-cases : (rule : CountRule) (src : List ℕ) (channel width : ℕ) (x : Chan) (L : Turn Chan (Taken × List ℕ) → Type 0)
     → ((n : ℕ) → x .done < width → x .at < length src → rule src (x .at) (x .done) width ≡ span n → L (more (spanOf src channel (getD src (x .at) 0) n x)))
     → ((number : ℕ) → x .done < width → x .at < length src → rule src (x .at) (x .done) width ≡ fault number → L (halt (Fault number, x .store)))
+    → ((n : ℕ) → x .done < width → x .at < length src → rule src (x .at) (x .done) width ≡ short n → L (halt (Fault 9, spanOf src channel (getD src (x .at) 0) n x .store)))
     → (x .done < width → length src ≤ x .at → L (halt (Fault 9, x .store)))
     → (width ≤ x .done → L (halt (Done (x .at), x .store))) → L (channelTurn rule src channel width x)
 unfolding channelTurn
-channel-cases rule src channel width x L spans faults missing done =
+channel-cases rule src channel width x L spans faults shorts missing done =
     by-test L (ltb (x .done) width)
     (λ t. let h = ltb-true (x .done) width t in
     by-test L (ltb (x .at) (length src))
@@ -97,6 +178,7 @@ channel-cases rule src channel width x L spans faults missing done =
     by-count : x .done < width → x .at < length src → (z : Count) → rule src (x .at) (x .done) width ≡ z → L (counted src channel x z)
     by-count h k (span n) e = spans n h k e
     by-count h k (fault number) e = faults number h k e
+    by-count h k (short n) e = shorts n h k e
 
 module _ (rule : CountRule) (src : List ℕ) (channel width : ℕ) (x : Chan) where
   pub turn-done : width ≤ x .done → channelTurn rule src channel width x ≡ halt (Done (x .at), x .store)
@@ -107,14 +189,17 @@ module _ (rule : CountRule) (src : List ℕ) (channel width : ℕ) (x : Chan) wh
   unfolding channelTurn
   turn-short h k = simp (lt-ltb (x .done) width h, le-ltb (x .at) (length src) k)
 
+  -- what the rule says of a count
+  pub turn-count : (z : Count) → x .done < width → x .at < length src → rule src (x .at) (x .done) width ≡ z → channelTurn rule src channel width x ≡ counted src channel x z
+  unfolding channelTurn
+  turn-count z h k e = simp (lt-ltb (x .done) width h, lt-ltb (x .at) (length src) k, e)
+
   pub turn-span : (n : ℕ) → x .done < width → x .at < length src → rule src (x .at) (x .done) width ≡ span n
       → channelTurn rule src channel width x ≡ more (spanOf src channel (getD src (x .at) 0) n x)
-  unfolding channelTurn
-  turn-span n h k e = simp (lt-ltb (x .done) width h, lt-ltb (x .at) (length src) k, e)
+  turn-span n = turn-count (span n)
 
   pub turn-fault : (number : ℕ) → x .done < width → x .at < length src → rule src (x .at) (x .done) width ≡ fault number → channelTurn rule src channel width x ≡ halt (Fault number, x .store)
-  unfolding channelTurn
-  turn-fault number h k e = simp (lt-ltb (x .done) width h, lt-ltb (x .at) (length src) k, e)
+  turn-fault number = turn-count (fault number)
 
 -- a turn of the code, over the values that it has in hand
 module _ (src : List ℕ) (channel p done : ℕ) (store : List ℕ) (next done′ : ℕ) (store′ : List ℕ) (c n : ℕ) where
@@ -134,7 +219,33 @@ module _ (src : List ℕ) (channel p done : ℕ) (store : List ℕ) (next done�
       → Runs (channelTurn crateCount src channel width) channelOut (length src - next) (chan next done′ store′) a
   crate-again width m a r h k ec em en e = span-again crateCount width a r h k ec (crate-count src p done width c m n ec em en) e
 
+  pub document-again : (width : ℕ) (b : Bool) (a : Taken × List ℕ) → Runs (channelTurn documentCount src channel width) channelOut (length src - p) (chan p done store) a
+      → done < width → p < length src → c ≡ getD src p 0 → n ≡ spanLength c → n ≤ width - done → b ≡ ltb (behind src p) (spanTaken c n) → b ≡ false
+      → chan next done′ store′ ≡ spanOf src channel c n (chan p done store)
+      → Runs (channelTurn documentCount src channel width) channelOut (length src - next) (chan next done′ store′) a
+  document-again width b a r h k ec en l eb t e = span-again documentCount width a r h k ec (document-span src p done width c n ec en l b eb t) e
+
+-- a row at fault by the document reading, over the same
+module _ (src : List ℕ) (channel p done : ℕ) (store : List ℕ) (c n width : ℕ) (a : Taken × List ℕ)
+    (r : Runs (channelTurn documentCount src channel width) channelOut (length src - p) (chan p done store) a)
+    (h : done < width) (k : p < length src) (ec : c ≡ getD src p 0) (en : n ≡ spanLength c) where
+  pub document-fault : width - done < n → (Fault 14, store) ≡ a
+  document-fault l = runs-halt r (turn-fault documentCount src channel width (chan p done store) 14 h k (document-past src p done width c n ec en l))
+
+  pub document-short : (b : Bool) (store′ : List ℕ) → n ≤ width - done → b ≡ ltb (behind src p) (spanTaken c n) → b ≡ true
+      → counted src channel (chan p done store) (lacking src p c) ≡ halt (Fault 9, store′) → (Fault 9, store′) ≡ a
+  document-short b store′ l eb t e =
+      runs-halt r (turn-count documentCount src channel width (chan p done store) (lacking src p c) h k (document-lacks src p done width c n ec en l b eb t) ∙ e)
+
 -- ---- The channel
+
+-- by the reading that the code has in hand
+module _ (reading : Reading) (src : List ℕ) (at : ℕ) (store : List ℕ) (channel width : ℕ) (a : Taken × List ℕ) where
+  pub by-crate : reading ≡ Crate → a ≡ channelOf crateCount src at store channel width → a ≡ channelOf (countRule reading) src at store channel width
+  by-crate r e = rw r e
+
+  pub by-document : reading ≡ Document → a ≡ channelOf documentCount src at store channel width → a ≡ channelOf (countRule reading) src at store channel width
+  by-document r e = rw r e
 
 pub channel-starts : (rule : CountRule) (src : List ℕ) (at : ℕ) (store : List ℕ) (channel width : ℕ)
     → Runs (channelTurn rule src channel width) channelOut (length src - at) (chan at 0 store) (channelOf rule src at store channel width)
@@ -147,6 +258,7 @@ channel-falls rule src channel width x =
     channel-cases rule src channel width x (Falls (λ (y : Chan). length src - y .at) x)
     (λ n h k e. omega (arith, span-onward src channel (getD src (x .at) 0) n x k))
     (λ number h k e. tt)
+    (λ n h k e. tt)
     (λ h k. tt)
     (λ h. tt)
 

@@ -4,18 +4,18 @@ use mathlib.Core.Path.{_≡_}
 use Prim.Native.Nat.{_-_}
 use lib.ListN.{length}
 use Rattle.steps.proofs.Laws.Loop.{Runs}
-use Rattle.channels_read.specs.Channel.{crateCount}
+use Rattle.channels_read.specs.Channel.{countRule}
 use Rattle.channels_read.specs.Channels.{chans, chansTurn, chansOut, channelsOf}
 use Rattle.channels_read.proofs.Laws.Channels.{chans-starts, chans-done, chans-fault, chans-again}
 use Rattle.channels_read.proofs.read_channels.Statement.{statement}
 use Rattle.channels_read.proofs.read_channels.Tie as tie
 
 abbrev Inv-loop : tie.InvT-loop
-Inv-loop src at store₀ width p₀ channel₀ store p channel =
-    (length store ≡ length store₀) × Runs (chansTurn crateCount src width) chansOut (4 - channel) (chans p channel store) (channelsOf crateCount src at store₀ width)
+Inv-loop reading src at store₀ width p₀ channel₀ store p channel =
+    (length store ≡ length store₀) × Runs (chansTurn (countRule reading) src width) chansOut (4 - channel) (chans p channel store) (channelsOf (countRule reading) src at store₀ width)
 
 abbrev μ-loop : tie.MeasureT-loop
-μ-loop src at store₀ width p₀ channel₀ store p channel = 4 - channel
+μ-loop reading src at store₀ width p₀ channel₀ store p channel = 4 - channel
 
 loop-holds : tie.Need-loop-holds Inv-loop μ-loop
 loop-holds c = (search needs, search chans-starts)
