@@ -1,10 +1,13 @@
 // A flat part of a row.
+mod crate_part;
+mod document;
+
+use steps::Reading;
 use steps::Taken;
-use steps::refusal;
 ghost use mathlib.Core.Path.{_≡_};
 ghost use Prim.Native.Nat.{_+_, _*_, _≤_};
 ghost use lib.ListN.{length};
-ghost use Rattle.flat_read.specs.Flat.{isRepeat, crateFlat, flatOf};
+ghost use Rattle.flat_read.specs.Flat.{isRepeat, flatRule, flatOf};
 
 // Whether the pixel at p starts 1, 1, 1.
 fn is_repeat(src: &[u8], p: usize) -> bool
@@ -20,31 +23,20 @@ fn is_repeat(src: &[u8], p: usize) -> bool
     src[p + 2] == 1
 }
 
-// The flat part that starts at byte start of the store, by the crate reading.
-pub fn read_flat(src: &[u8], at: usize, store: &mut [u8], start: usize, wanted: usize) -> Taken
-    requires { ⌜ start + 4 * wanted ≤ length (now store) ⌝ }
-    ensures { λ r. ⌜ (r, now (store .exit)) ≡ flatOf crateFlat (now (src .entry)) at (now (store .entry)) start wanted ⌝ }
+// The flat part that starts at byte start of the store. No row is wider than 65,535.
+pub fn read_flat(
+    reading: Reading,
+    src: &[u8],
+    at: usize,
+    store: &mut [u8],
+    start: usize,
+    wanted: usize,
+) -> Taken
+    requires { ⌜ (start + 4 * wanted ≤ length (now store)) × (wanted ≤ 65535) ⌝ }
+    ensures { λ r. ⌜ (r, now (store .exit)) ≡ flatOf (flatRule reading) (now (src .entry)) at (now (store .entry)) start wanted ⌝ }
 {
-    let mut p = at;
-    let mut place = start;
-    let mut left = wanted;
-    while 0 < left {
-        let there = steps::less(src.len(), p);
-        if there < 4 {
-            steps::put_bytes(src, p, store, place, there);
-            return Taken::Fault {
-                number: refusal::BYTES_END,
-            };
-        }
-        steps::put_bytes(src, p, store, place, 4);
-        if is_repeat(src, p) {
-            return Taken::Fault {
-                number: refusal::OLD_RUN,
-            };
-        }
-        p += 4;
-        place += 4;
-        left -= 1;
+    match reading {
+        Reading::Crate => crate_part::read(src, at, store, start, wanted),
+        Reading::Document => document::read(src, at, store, start, wanted),
     }
-    Taken::Done { next: p }
 }

@@ -15,7 +15,9 @@ use Rattle.steps.proofs.Laws.Taken.{never-both}
 use Rattle.steps.proofs.Laws.Turns.{by-test, Falls, Leads, never-out, run-keeps}
 use Rattle.steps.specs.declared.Taken.{Taken}
 use Rattle.steps.specs.declared.Taken.the-variants.{Done, Fault}
-use Rattle.flat_read.specs.Flat.{Flat, FlatRule, flat, crateFlat, flatOf, flatOut, flatTurn, fourTo, isRepeat, ordinary, stored}
+use Rattle.steps.specs.declared.Reading.{Reading}
+use Rattle.steps.specs.declared.Reading.the-variants.{Crate, Document}
+use Rattle.flat_read.specs.Flat.{Flat, FlatRule, flat, crateFlat, documentOnes, documentFlat, timesOf, flatRule, flatOf, flatOut, flatTurn, fourTo, isRepeat, ordinary, stored}
 
 -- ---- A pixel
 
@@ -41,35 +43,35 @@ four-there src at store place h =
 -- ---- The flat part
 
 pub flat-starts : (rule : FlatRule) (src : List ℕ) (at : ℕ) (store : List ℕ) (start wanted : ℕ)
-    → Runs (flatTurn rule src) flatOut (length src - at) (flat at start wanted store) (flatOf rule src at store start wanted)
+    → Runs (flatTurn rule src) flatOut (length src - at) (flat at start wanted 0 store) (flatOf rule src at store start wanted)
 unfolding flatOf
 flat-starts rule src at store start wanted = runs-start _ _ _ _ _ (omega arith)
 
 -- the loop, over the values that the code has in hand; n is how many bytes the input has left
-module _ (rule : FlatRule) (src : List ℕ) (p place wanted : ℕ) (store : List ℕ) (a : Taken × List ℕ)
-    (r : Runs (flatTurn rule src) flatOut (length src - p) (flat p place wanted store) a) where
+module _ (rule : FlatRule) (src : List ℕ) (p place wanted repeats : ℕ) (store : List ℕ) (a : Taken × List ℕ)
+    (r : Runs (flatTurn rule src) flatOut (length src - p) (flat p place wanted repeats store) a) where
   pub flat-done : wanted ≤ 0 → (Done p, store) ≡ a
   unfolding flatTurn
   flat-done h = runs-halt r (simp (le-ltb 0 wanted h))
 
   module _ (h : 0 < wanted) where
-    pub flat-missing : length src < p + 4 → (Fault 9, rule .missing src (flat p place wanted store)) ≡ a
+    pub flat-missing : length src < p + 4 → (Fault 9, rule .missing src (flat p place wanted repeats store)) ≡ a
     unfolding flatTurn
     flat-missing l = runs-halt r (simp (lt-ltb 0 wanted h, lt-ltb (length src) (p + 4) l))
 
-    pub flat-ordinary : (x : Flat) → p + 4 ≤ length src → isRepeat src p ≡ false → x ≡ ordinary (stored src (flat p place wanted store))
+    pub flat-ordinary : (x : Flat) → p + 4 ≤ length src → isRepeat src p ≡ false → x ≡ ordinary (stored src (flat p place wanted repeats store))
         → Runs (flatTurn rule src) flatOut (length src - (p + 4)) x a
     unfolding flatTurn
     flat-ordinary x l e ex = rw ex (runs-more r (simp (lt-ltb 0 wanted h, le-ltb (length src) (p + 4) l, e)) (omega arith))
 
 -- the same by the crate reading
 module _ (src : List ℕ) (p place wanted : ℕ) (store : List ℕ) (a : Taken × List ℕ)
-    (r : Runs (flatTurn crateFlat src) flatOut (length src - p) (flat p place wanted store) a) (h : 0 < wanted) (n : ℕ) (en : n ≡ length src - p) where
+    (r : Runs (flatTurn crateFlat src) flatOut (length src - p) (flat p place wanted 0 store) a) (h : 0 < wanted) (n : ℕ) (en : n ≡ length src - p) where
   pub flat-short : (store′ : List ℕ) → n < 4 → store′ ≡ spread 1 store place (bytesFrom src p n) → (Fault 9, store′) ≡ a
   unfolding crateFlat fourTo
   flat-short store′ l es =
       let m : min 4 (length src - p) ≡ n = omega arith in
-      rw (es, ← m) (flat-missing crateFlat src p place wanted store a r h (omega arith))
+      rw (es, ← m) (flat-missing crateFlat src p place wanted 0 store a r h (omega arith))
 
   module _ (store′ : List ℕ) (l : 4 ≤ n) (es : store′ ≡ spread 1 store place (bytesFrom src p 4)) (b : Bool) (eb : b ≡ isRepeat src p) where
     pub flat-ones : b ≡ true → (Fault 25, store′) ≡ a
@@ -78,10 +80,10 @@ module _ (src : List ℕ) (p place wanted : ℕ) (store : List ℕ) (a : Taken �
         let l′ : p + 4 ≤ length src = omega arith in
         rw (es, ← four-there src p store place l′) (runs-halt r (simp (lt-ltb 0 wanted h, le-ltb (length src) (p + 4) l′, sym eb ∙ t)))
 
-    pub flat-again : b ≡ false → Runs (flatTurn crateFlat src) flatOut (length src - (p + 4)) (flat (p + 4) (place + 4) (wanted - 1) store′) a
+    pub flat-again : b ≡ false → Runs (flatTurn crateFlat src) flatOut (length src - (p + 4)) (flat (p + 4) (place + 4) (wanted - 1) 0 store′) a
     flat-again t =
         let l′ : p + 4 ≤ length src = omega arith in
-        rw (es, ← four-there src p store place l′) (flat-ordinary crateFlat src p place wanted store a r h _ l′ (sym eb ∙ t) refl)
+        rw (es, ← four-there src p store place l′) (flat-ordinary crateFlat src p place wanted 0 store a r h _ l′ (sym eb ∙ t) refl)
 
 -- a turn, case by case
 pub flat-cases : (rule : FlatRule) (src : List ℕ) (x : Flat) (L : Turn Flat (Taken × List ℕ) → Type 0)
@@ -107,6 +109,17 @@ pub crate-onward : OnesOnward crateFlat
 unfolding crateFlat
 crate-onward src x h = tt
 
+pub document-onward : OnesOnward documentFlat
+unfolding documentFlat documentOnes
+document-onward src x h = by-test F (ltb (x .place) 4) (λ t. tt) (λ t. by-test F (ltb (x .wanted) (timesOf src x)) (λ u. tt) (λ u. omega arith))
+  where
+    F : Turn Flat (Taken × List ℕ) → Type 0
+    F = Falls (λ (y : Flat). length src - y .at) x
+
+pub reading-onward : (reading : Reading) → OnesOnward (flatRule reading)
+reading-onward Crate = crate-onward
+reading-onward Document = document-onward
+
 -- each turn that goes on takes four bytes
 pub flat-falls : (rule : FlatRule) → OnesOnward rule → (src : List ℕ) (x : Flat) → Falls (λ (y : Flat). length src - y .at) x (flatTurn rule src x)
 flat-falls rule on src x =
@@ -114,7 +127,7 @@ flat-falls rule on src x =
 
 -- so the turns never run out
 pub flat-never-out : (rule : FlatRule) → OnesOnward rule → (src : List ℕ) (at : ℕ) (store : List ℕ) (start wanted : ℕ) (out : Flat → Taken × List ℕ)
-    → flatOf rule src at store start wanted ≡ run (flatTurn rule src) out (length src + 1) (flat at start wanted store)
+    → flatOf rule src at store start wanted ≡ run (flatTurn rule src) out (length src + 1) (flat at start wanted 0 store)
 unfolding flatOf
 flat-never-out rule on src at store start wanted out = never-out (flatTurn rule src) flatOut out (λ x. length src - x .at) (flat-falls rule on src) _ _ (omega arith)
 
