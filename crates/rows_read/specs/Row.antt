@@ -1,7 +1,7 @@
 -- One row (RULES 4.2 to 4.4): the kind of row, and the row store after it, over what a reading does with its parts.
-use Prim.Native.Nat.{ℕ, _+_, _-_, min}
+use Prim.Native.Nat.{ℕ, _+_, _-_, _*_, min}
 use mathlib.Core.List.{List}
-use mathlib.Core.Bool.{Bool, not, _&&_}
+use mathlib.Core.Bool.{Bool, true, not, _&&_}
 use mathlib.Core.Logic.{_⊎_}
 use mathlib.Core.Path.{_≡_}
 use lib.ListN.{length, getD, set}
@@ -9,11 +9,13 @@ use lib.Dec.{ltb, leb, eqb}
 use Rattle.steps.specs.Loop.{pick}
 use Rattle.steps.specs.Place.{bytesFrom, spread}
 use Rattle.steps.specs.Width.{isCoded}
-use Rattle.channels_read.specs.Channel.{crateCount}
+use Rattle.channels_read.specs.Channel.{countRule}
 use Rattle.channels_read.specs.Channels.{channelsOf}
-use Rattle.flat_read.specs.Flat.{crateFlat, flatOf}
+use Rattle.flat_read.specs.Flat.{flatRule, flatOf}
 use Rattle.steps.specs.declared.Taken.{Taken}
 use Rattle.steps.specs.declared.Taken.the-variants.{Fault}
+use Rattle.steps.specs.declared.Reading.{Reading}
+use Rattle.steps.specs.declared.Reading.the-variants.{Crate, Document}
 use Rattle.rows_read.specs.declared.kind.Kind.{Kind}
 use Rattle.rows_read.specs.declared.kind.Kind.the-variants.{Missing, Flat, Pixel, Channels}
 
@@ -47,15 +49,17 @@ pub record RowParts : Type 0 where
   pub start : List ℕ → ℕ → List ℕ → List ℕ
   -- a flat part: the input, the next place in it, the row store, the byte of the store where the part starts, and how many pixels are wanted
   pub flat : List ℕ → ℕ → List ℕ → ℕ → ℕ → Taken × List ℕ
+  -- whether the mark at a place will do for rows of that width
+  pub mark : List ℕ → ℕ → ℕ → Bool
   -- what comes after a mark
   pub channels : RowRule
 
--- after a pixel 0 "the rest is a flat part of w - 1 pixels", from byte 4 of the store on
+-- after a pixel 0 "the rest is a flat part of w - 1 pixels", from byte 4 of the store on; 14 "for a wrong mark width"
 abbrev pub restBy : RowParts → List ℕ → ℕ → ℕ → Kind → List ℕ → Taken × List ℕ
 restBy parts src at width Missing store = (Fault 9, store)
 restBy parts src at width Flat store = parts .flat src at store 0 width
 restBy parts src at width (Pixel next) store = parts .flat src next store 4 (width - 1)
-restBy parts src at width (Channels next) store = parts .channels src next store width
+restBy parts src at width (Channels next) store = pick (parts .mark src at width) (parts .channels src next store width) (Fault 14, store)
 
 -- the row from a place of the input on
 unfoldable pub rowBy : RowParts → RowRule
@@ -79,12 +83,51 @@ unfoldable pub crateStart : List ℕ → ℕ → List ℕ → List ℕ
 crateStart src at store = proved src at (kindOf src at) (early src at store)
 
 -- "the mark's width is not compared with the header's"
-unfoldable pub crateParts : RowParts
-crateParts = record { start = crateStart; flat = flatOf crateFlat; channels = channelsOf crateCount }
+abbrev pub crateMark : List ℕ → ℕ → ℕ → Bool
+crateMark src at width = true
 
-unfoldable pub crateRow : RowRule
-crateRow = rowBy crateParts
+-- ---- The document reading
 
--- the numbers by which it refuses a row: 9, and 25 at a pixel 1,1,1,n of a flat part
-abbrev pub CrateFault : ℕ → Type 0
-CrateFault number = (number ≡ 9) ⊎ (number ≡ 25)
+-- "Only whole flat pixels" enter the row store, "no mark": pixel 0 of a row that starts with 2
+abbrev pub wholePixel : List ℕ → ℕ → Kind → List ℕ → List ℕ
+wholePixel src at Missing store = store
+wholePixel src at Flat store = store
+wholePixel src at (Pixel next) store = spread 1 store 0 (bytesFrom src at 4)
+wholePixel src at (Channels next) store = store
+
+unfoldable pub documentStart : List ℕ → ℕ → List ℕ → List ℕ
+documentStart src at store = wholePixel src at (kindOf src at) store
+
+-- "The mark's width must be the header's."
+unfoldable pub documentMark : List ℕ → ℕ → ℕ → Bool
+documentMark src at width = eqb (getD src (at + 2) 0 * 256 + getD src (at + 3) 0) width
+
+-- ---- Either reading
+
+abbrev pub startOf : Reading → List ℕ → ℕ → List ℕ → List ℕ
+startOf Crate = crateStart
+startOf Document = documentStart
+
+abbrev pub markOf : Reading → List ℕ → ℕ → ℕ → Bool
+markOf Crate = crateMark
+markOf Document = documentMark
+
+unfoldable pub partsOf : Reading → RowParts
+partsOf reading = record { start = startOf reading; flat = flatOf (flatRule reading); mark = markOf reading; channels = channelsOf (countRule reading) }
+
+unfoldable pub rowOf : Reading → RowRule
+rowOf reading = rowBy (partsOf reading)
+
+abbrev pub crateRow : RowRule
+crateRow = rowOf Crate
+
+abbrev pub documentRow : RowRule
+documentRow = rowOf Document
+
+-- the numbers by which a reading refuses a row: 9, and 25 at a pixel 1,1,1,n of a flat part in the crate reading, 14 in the document reading
+abbrev pub otherFault : Reading → ℕ
+otherFault Crate = 25
+otherFault Document = 14
+
+abbrev pub RowFault : Reading → ℕ → Type 0
+RowFault reading number = (number ≡ 9) ⊎ (number ≡ otherFault reading)

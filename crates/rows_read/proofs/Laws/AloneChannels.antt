@@ -11,7 +11,7 @@ use Rattle.steps.proofs.Laws.Turns.{Leads, run-keeps, enough-turns}
 use Rattle.steps.proofs.Laws.Machines.{more-halt, halted, same-run}
 use Rattle.steps.specs.declared.Taken.{Taken}
 use Rattle.steps.specs.declared.Taken.the-variants.{Done, Fault}
-use Rattle.channels_read.specs.Channel.{Chan, chan, Count, span, fault, CountRule, channelTurn, channelOut, channelOf, isRun, spanBytes, spanTaken, spanOf}
+use Rattle.channels_read.specs.Channel.{Chan, chan, Count, span, fault, short, CountRule, channelTurn, channelOut, channelOf, isRun, spanBytes, spanTaken, spanOf}
 use Rattle.channels_read.specs.Channels.{Chans, chans, afterChannel, chansTurn, chansOut, channelsOf}
 use Rattle.channels_read.proofs.Laws.Channel.{channel-cases, channel-falls, span-onward, turn-done, turn-fault, turn-span}
 use Rattle.channels_read.proofs.Laws.Channels.{chans-cases}
@@ -24,10 +24,11 @@ use Rattle.rows_read.proofs.Laws.Alike.{byte-same, bytes-same, Near, ne
 abbrev pub CountRests : List ℕ → ℕ → ℕ → Count → Type 0
 CountRests src n at (span k) = at + 1 + spanTaken (getD src at 0) k ≤ n
 CountRests src n at (fault number) = (number ≡ 9 → ⊥) × (length src ≤ n)
+CountRests src n at (short k) = ⊥
 
 pub record CountAlone (gap : ℕ) (rule : CountRule) : Type 0 where
   -- where so many bytes are left behind a span, all of it was there
-  pub whole : (src : List ℕ) (at done width k : ℕ) → rule src at done width ≡ span k → min (at + 1 + spanTaken (getD src at 0) k) (length src) + gap ≤ length src
+  pub whole : (src : List ℕ) (at done width k : ℕ) → at < length src → rule src at done width ≡ span k → min (at + 1 + spanTaken (getD src at 0) k) (length src) + gap ≤ length src
       → at + 1 + spanTaken (getD src at 0) k ≤ length src
   pub same : (src other : List ℕ) (n at done width : ℕ) → Alike n src other → at < n → CountRests src n at (rule src at done width) → rule other at done width ≡ rule src at done width
 
@@ -62,6 +63,7 @@ module _ (gap : ℕ) (small : gap ≤ 1) (rule : CountRule) (src : List ℕ) (n 
           channel-cases rule src channel width y (Leads P Q)
           (λ m d l f near. let on = span-onward src channel (getD src (y .at) 0) m y l in p (omega arith, omega arith))
           (λ number d l f g. p (omega (arith, g .1), omega arith))
+          (λ m d l e f. f .0 refl)
           (λ d l f. f .0 refl)
           (λ d f. p f)
 
@@ -70,16 +72,17 @@ module _ (gap : ℕ) (small : gap ≤ 1) (rule : CountRule) (src : List ℕ) (n 
   channel-of-past at store h = channel-past (length src + 1) (chan at 0 store) h
 
 module _ (gap : ℕ) (small : gap ≤ 1) (rule : CountRule) (alone : CountAlone gap rule) (src other : List ℕ) (n : ℕ) (alike : Alike n src other) (channel width : ℕ) where
-  span-inside : (x : Chan) (k : ℕ) → rule src (x .at) (x .done) width ≡ span k → Near gap (length src) n (spanOf src channel (getD src (x .at) 0) k x .at)
+  span-inside : (x : Chan) (k : ℕ) → x .at < length src → rule src (x .at) (x .done) width ≡ span k → Near gap (length src) n (spanOf src channel (getD src (x .at) 0) k x .at)
       → x .at + 1 + spanTaken (getD src (x .at) 0) k ≤ n
   unfolding spanOf
-  span-inside x k f near = omega (arith, alone .whole src (x .at) (x .done) width k f (near .1), near .0)
+  span-inside x k l f near = omega (arith, alone .whole src (x .at) (x .done) width k l f (near .1), near .0)
 
   channel-on : (x t : Chan) → channelTurn rule src channel width x ≡ more t → Near gap (length src) n (t .at) → channelTurn rule other channel width x ≡ more t
   channel-on x t e near =
       channel-cases rule src channel width x (λ (z : Turn Chan (Taken × List ℕ)). z ≡ more t → channelTurn rule other channel width x ≡ more t)
       (λ k d l f g. goes k d l f g)
       (λ number d l f k. more-halt t _ (sym k))
+      (λ m d l f k. more-halt t _ (sym k))
       (λ d l k. more-halt t _ (sym k))
       (λ d k. more-halt t _ (sym k)) e
     where
@@ -88,7 +91,7 @@ module _ (gap : ℕ) (small : gap ≤ 1) (rule : CountRule) (alone : CountAlone 
       goes k d l f g =
           let c = getD src (x .at) 0 in
           let s : spanOf src channel c k x ≡ t = cc in
-          let inside = span-inside x k f (subst (λ (y : Chan). Near gap (length src) n (y .at)) (sym s) near) in
+          let inside = span-inside x k l f (subst (λ (y : Chan). Near gap (length src) n (y .at)) (sym s) near) in
           let here : x .at < n = omega arith in
           turn-span rule other channel width x k d (omega (arith, alike .1)) (alone .same src other n (x .at) (x .done) width alike here (subst (CountRests src n (x .at)) (sym f) inside) ∙ f)
           ∙ rw (byte-same src other n alike (x .at) here) (ap more (span-same src other n alike channel c k x inside ∙ s))
@@ -101,6 +104,7 @@ module _ (gap : ℕ) (small : gap ≤ 1) (rule : CountRule) (alone : CountAlone 
       let sure : Firm gap (length src) n (Fault number, x .store) = subst (Firm gap (length src) n) (sym (halted k)) firm in
       let here : x .at < n = omega (arith, sure .1) in
       turn-fault rule other channel width x number d (omega (arith, alike .1)) (alone .same src other n (x .at) (x .done) width alike here (subst (CountRests src n (x .at)) (sym f) sure) ∙ f) ∙ k)
+      (λ m d l f k. absurd (subst (Firm gap (length src) n) (sym (halted k)) firm .0 refl))
       (λ d l k. absurd (subst (Firm gap (length src) n) (sym (halted k)) firm .0 refl))
       (λ d k. turn-done rule other channel width x d ∙ k) e
 

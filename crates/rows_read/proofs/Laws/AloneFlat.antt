@@ -61,7 +61,7 @@ module _ (gap : ℕ) (small : gap ≤ 1) (rule : FlatRule) (alone : FlatAlone ru
 
   pub flat-of-past : (at : ℕ) (store : List ℕ) (start wanted : ℕ) → (Near gap (length src) n at → ⊥) → Firm gap (length src) n (flatOf rule src at store start wanted) → ⊥
   unfolding flatOf
-  flat-of-past at store start wanted h = flat-past (length src + 1) (flat at start wanted store) h
+  flat-of-past at store start wanted h = flat-past (length src + 1) (flat at start wanted 0 store) h
 
   -- a turn after which such an answer can still be reached
   abbrev Reaches : Turn Flat (Taken × List ℕ) → Type 0
@@ -87,7 +87,7 @@ module _ (gap : ℕ) (small : gap ≤ 1) (rule : FlatRule) (alone : FlatAlone ru
       pixel-there x w (by (flatTurn rule src x) (subst (λ k. Firm gap (length src) n (run (flatTurn rule src) flatOut k x)) one-more firm))
     where
       x : Flat
-      x = flat at start wanted store
+      x = flat at start wanted 0 store
 
       by : (z : Turn Flat (Taken × List ℕ)) → Firm gap (length src) n (lead (run (flatTurn rule src) flatOut (length src)) z) → Reaches z
       by (more t) f = near-or gap (length src) n (t .at) (λ near. near) (λ far. absurd (flat-past (length src) t far f))

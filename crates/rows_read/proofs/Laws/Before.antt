@@ -1,4 +1,4 @@
--- Bytes before a row change nothing but places. First of any rule that promises it of its parts, then of the crate reading; and both sides together.
+-- Bytes before a row change nothing but places. First of any rule that promises it of its parts, then of either reading; and both sides together.
 use Prim.Native.Nat.{ℕ, zero, suc, _+_, _-_, min}
 use mathlib.Core.Bool.{Bool, true, false}
 use mathlib.Core.List.{List, [], _∷_, _++_}
@@ -14,16 +14,18 @@ use Rattle.steps.proofs.Laws.Turns.{enough-turns}
 use Rattle.steps.proofs.Laws.Machines.{told, told-pick, told-run}
 use Rattle.steps.specs.declared.Taken.{Taken}
 use Rattle.steps.specs.declared.Taken.the-variants.{Done, Fault}
-use Rattle.channels_read.specs.Channel.{Chan, chan, CountRule, crateCount, channelTurn, channelOut, channelOf, spanBytes, spanOf}
+use Rattle.steps.specs.declared.Reading.{Reading}
+use Rattle.steps.specs.declared.Reading.the-variants.{Crate, Document}
+use Rattle.channels_read.specs.Channel.{Chan, chan, CountRule, short, behind, crateCount, documentCount, countRule, channelTurn, channelOut, channelOf, spanBytes, spanOf}
 use Rattle.channels_read.specs.Channels.{Chans, chans, afterChannel, chansTurn, chansOut, channelsOf}
-use Rattle.channels_read.proofs.Laws.Channel.{channel-cases, channel-falls, turn-done, turn-short, turn-fault, turn-span}
-use Rattle.flat_read.specs.Flat.{Flat, FlatRule, flat, crateFlat, fourTo, isRepeat, flatTurn, flatOut, flatOf, ordinary, stored}
-use Rattle.flat_read.proofs.Laws.Flat.{OnesOnward, crate-onward, flat-falls}
+use Rattle.channels_read.proofs.Laws.Channel.{channel-cases, channel-falls, turn-done, turn-short, turn-count, turn-fault, turn-span}
+use Rattle.flat_read.specs.Flat.{Flat, FlatRule, flat, crateFlat, documentOnes, documentFlat, flatRule, timesOf, repeated, fourTo, isRepeat, flatTurn, flatOut, flatOf, ordinary, stored}
+use Rattle.flat_read.proofs.Laws.Flat.{OnesOnward, reading-onward, flat-falls}
 use Rattle.rows_read.specs.declared.kind.Kind.{Kind}
 use Rattle.rows_read.specs.declared.kind.Kind.the-variants as kind
-use Rattle.rows_read.specs.Row.{RowParts, RowRule, isFlatWidth, isMark, kindOf, restBy, rowBy, early, proved, crateStart, crateParts, crateRow}
+use Rattle.rows_read.specs.Row.{RowParts, RowRule, isFlatWidth, isMark, kindOf, restBy, rowBy, early, proved, wholePixel, crateStart, documentStart, documentMark, startOf, markOf, partsOf, rowOf}
 use Rattle.rows_read.specs.Middle.{later, Before, Behind, Anywhere}
-use Rattle.rows_read.proofs.Laws.Behind.{crate-behind}
+use Rattle.rows_read.proofs.Laws.Behind.{reading-behind}
 
 -- an answer, with its store, n places later
 abbrev pub laterBy : ℕ → Taken × List ℕ → Taken × List ℕ
@@ -90,6 +92,8 @@ module _ (rule : CountRule) (before : CountBefore rule) (pre src : List ℕ) whe
       channel-cases rule src channel width x (λ (z : Turn Chan (Taken × List ℕ)). channelTurn rule (pre ++ src) channel width y ≡ told (chan-later (length pre)) (laterBy (length pre)) z)
       (λ m d l e. turn-span rule (pre ++ src) channel width y m d (omega arith) (same ∙ e) ∙ rw (byte-later pre src (x .at)) (ap more (span-later pre src channel (getD src (x .at) 0) m x)))
       (λ number d l e. turn-fault rule (pre ++ src) channel width y number d (omega arith) (same ∙ e))
+      (λ m d l e. turn-count rule (pre ++ src) channel width y (short m) d (omega arith) (same ∙ e)
+      ∙ rw (byte-later pre src (x .at)) (ap (λ (z : Chan). halt (Fault 9, z .store)) (span-later pre src channel (getD src (x .at) 0) m x)))
       (λ d l. turn-short rule (pre ++ src) channel width y d (omega arith))
       (λ d. turn-done rule (pre ++ src) channel width y d)
 
@@ -122,7 +126,7 @@ module _ (rule : CountRule) (before : CountBefore rule) (pre src : List ℕ) whe
 -- ---- A flat part, by a rule of which the same holds at missing bytes and at 1,1,1,n
 
 abbrev pub flat-later : ℕ → Flat → Flat
-flat-later n x = flat (n + x .at) (x .place) (x .wanted) (x .store)
+flat-later n x = flat (n + x .at) (x .place) (x .wanted) (x .repeats) (x .store)
 
 pub record FlatBefore (rule : FlatRule) : Type 0 where
   pub missing : (pre src : List ℕ) (x : Flat) → rule .missing (pre ++ src) (flat-later (length pre) x) ≡ rule .missing src x
@@ -160,8 +164,8 @@ module _ (rule : FlatRule) (on : OnesOnward rule) (before : FlatBefore rule) (pr
   unfolding flatOf
   flat-before at store start wanted =
       let size = length-append pre src in
-      enough-turns (flatTurn rule (pre ++ src)) flatOut flatOut (λ y. length (pre ++ src) - y .at) (flat-falls rule on (pre ++ src)) (length (pre ++ src) + 1) (length src + 1) (flat (length pre + at) start wanted store) (omega arith) (omega arith)
-      ∙ told-run (flatTurn rule src) (flatTurn rule (pre ++ src)) flatOut flatOut (flat-later (length pre)) (laterBy (length pre)) flat-turns (λ x. refl) (length src + 1) (flat at start wanted store)
+      enough-turns (flatTurn rule (pre ++ src)) flatOut flatOut (λ y. length (pre ++ src) - y .at) (flat-falls rule on (pre ++ src)) (length (pre ++ src) + 1) (length src + 1) (flat (length pre + at) start wanted 0 store) (omega arith) (omega arith)
+      ∙ told-run (flatTurn rule src) (flatTurn rule (pre ++ src)) flatOut flatOut (flat-later (length pre)) (laterBy (length pre)) flat-turns (λ x. refl) (length src + 1) (flat at start wanted 0 store)
 
 -- ---- The row
 
@@ -190,6 +194,7 @@ kind-before pre src at =
 pub record PartsBefore (parts : RowParts) : Type 0 where
   pub start : (pre src : List ℕ) (at : ℕ) (store : List ℕ) → parts .start (pre ++ src) (length pre + at) store ≡ parts .start src at store
   pub flat : (pre src : List ℕ) (at : ℕ) (store : List ℕ) (start wanted : ℕ) → parts .flat (pre ++ src) (length pre + at) store start wanted ≡ laterBy (length pre) (parts .flat src at store start wanted)
+  pub mark : (pre src : List ℕ) (at width : ℕ) → parts .mark (pre ++ src) (length pre + at) width ≡ parts .mark src at width
   pub channels : (pre src : List ℕ) (at : ℕ) (store : List ℕ) (width : ℕ) → parts .channels (pre ++ src) (length pre + at) store width ≡ laterBy (length pre) (parts .channels src at store width)
 
 pub row-before : (parts : RowParts) → PartsBefore parts → Before (rowBy parts)
@@ -200,28 +205,54 @@ row-before parts before pre src at store width = go (isFlatWidth width) refl
     by-kind kind.Missing s = refl
     by-kind kind.Flat s = before .flat pre src at s 0 width
     by-kind (kind.Pixel next) s = before .flat pre src next s 4 (width - 1)
-    by-kind (kind.Channels next) s = before .channels pre src next s width
+    by-kind (kind.Channels next) s = rw (before .mark pre src at width, before .channels pre src next s width) (either (parts .mark src at width))
+      where
+        either : (b : Bool) → pick b (laterBy (length pre) (parts .channels src next s width)) (Fault 14, s) ≡ laterBy (length pre) (pick b (parts .channels src next s width) (Fault 14, s))
+        either true = refl
+        either false = refl
 
     go : (b : Bool) → isFlatWidth width ≡ b → rowBy parts (pre ++ src) (length pre + at) store width ≡ laterBy (length pre) (rowBy parts src at store width)
     go true e = simp e (before .flat pre src at store 0 width)
     go false e = simp e (rw (kind-before pre src at, before .start pre src at store) (by-kind (kindOf src at) (parts .start src at store)))
 
--- ---- The crate reading
+-- ---- Either reading
 
-crate-count-before : CountBefore crateCount
-unfolding crateCount
-crate-count-before pre src at done width = rw (byte-later pre src at)
+count-before : (reading : Reading) → CountBefore (countRule reading)
+unfolding crateCount documentCount
+count-before Crate pre src at done width = rw (byte-later pre src at)
+count-before Document pre src at done width =
+    let size = length-append pre src in
+    let left : behind (pre ++ src) (length pre + at) ≡ behind src at = omega arith in
+    rw (byte-later pre src at, left)
 
-crate-flat-before : FlatBefore crateFlat
-unfolding crateFlat
-crate-flat-before = record {
+ones-before : (pre src : List ℕ) (x : Flat) → documentOnes (pre ++ src) (flat-later (length pre) x) ≡ told (flat-later (length pre)) (laterBy (length pre)) (documentOnes src x)
+unfolding documentOnes
+ones-before pre src x =
+    let next : length pre + x .at + 4 ≡ length pre + (x .at + 4) = omega arith in
+    rw (add-assoc, byte-later pre src (x .at + 3), next) (either (ltb (x .place) 4) (ltb (x .wanted) (timesOf src x)))
+  where
+    Stop : Turn Flat (Taken × List ℕ)
+    Stop = halt (Fault 14, x .store)
+
+    On : Turn Flat (Taken × List ℕ)
+    On = more (repeated x (timesOf src x))
+
+    either : (a b : Bool) → pick a Stop (pick b Stop (told (flat-later (length pre)) (laterBy (length pre)) On)) ≡ told (flat-later (length pre)) (laterBy (length pre)) (pick a Stop (pick b Stop On))
+    either true b = refl
+    either false true = refl
+    either false false = refl
+
+flat-rule-before : (reading : Reading) → FlatBefore (flatRule reading)
+unfolding crateFlat documentFlat
+flat-rule-before Crate = record {
   missing = λ pre src x. four-later pre src (x .at) (x .store) (x .place);
   ones = λ pre src x. rw (four-later pre src (x .at) (x .store) (x .place)) refl;
 }
+flat-rule-before Document = record { missing = λ pre src x. refl; ones = ones-before }
 
-start-before : (pre src : List ℕ) (at : ℕ) (store : List ℕ) → crateStart (pre ++ src) (length pre + at) store ≡ crateStart src at store
-unfolding crateStart early
-start-before pre src at store =
+start-before : (reading : Reading) (pre src : List ℕ) (at : ℕ) (store : List ℕ) → startOf reading (pre ++ src) (length pre + at) store ≡ startOf reading src at store
+unfolding crateStart early documentStart
+start-before Crate pre src at store =
     let size = length-append pre src in
     let next : length pre + at + 1 ≡ length pre + (at + 1) = omega arith in
     let m : length (pre ++ src) - (length pre + (at + 1)) ≡ length src - (at + 1) = omega arith in
@@ -232,14 +263,27 @@ start-before pre src at store =
     by-kind kind.Flat s = refl
     by-kind (kind.Pixel next) s = rw (add-assoc, byte-later pre src at, byte-later pre src (at + 3))
     by-kind (kind.Channels next) s = refl
+start-before Document pre src at store = rw (kind-before pre src at) (by-kind (kindOf src at))
+  where
+    by-kind : (k : Kind) → wholePixel (pre ++ src) (length pre + at) (kind-later (length pre) k) store ≡ wholePixel src at k store
+    by-kind kind.Missing = refl
+    by-kind kind.Flat = refl
+    by-kind (kind.Pixel next) = rw (bytes-later pre src at 4)
+    by-kind (kind.Channels next) = refl
 
-pub crate-before : Before crateRow
-unfolding crateRow crateParts
-crate-before =
-    row-before crateParts (record {
-      start = start-before;
-      flat = flat-before crateFlat crate-onward crate-flat-before;
-      channels = channels-before crateCount crate-count-before;
+mark-before : (reading : Reading) (pre src : List ℕ) (at width : ℕ) → markOf reading (pre ++ src) (length pre + at) width ≡ markOf reading src at width
+unfolding documentMark
+mark-before Crate pre src at width = refl
+mark-before Document pre src at width = rw (add-assoc, add-assoc, byte-later pre src (at + 2), byte-later pre src (at + 3))
+
+pub reading-before : (reading : Reading) → Before (rowOf reading)
+unfolding rowOf partsOf
+reading-before reading =
+    row-before (partsOf reading) (record {
+      start = start-before reading;
+      flat = flat-before (flatRule reading) (reading-onward reading) (flat-rule-before reading);
+      mark = mark-before reading;
+      channels = channels-before (countRule reading) (count-before reading);
     })
 
 -- ---- Before and behind
@@ -247,5 +291,5 @@ crate-before =
 pub anywhere : (rule : RowRule) → Before rule → Behind rule → Anywhere rule
 anywhere rule before behind pre src rest at store width settled = before pre (src ++ rest) at store width ∙ rw (behind src rest at store width settled)
 
-pub crate-anywhere : Anywhere crateRow
-crate-anywhere = anywhere crateRow crate-before crate-behind
+pub reading-anywhere : (reading : Reading) → Anywhere (rowOf reading)
+reading-anywhere reading = anywhere (rowOf reading) (reading-before reading) (reading-behind reading)

@@ -1,27 +1,32 @@
 -- What holds of every row, for the reader above: the store keeps its length and what lies beyond the row's 4w bytes,
--- and the next place in the input is neither before the row nor past the end. First of any rule that promises it of its parts, then of the crate reading.
-use Prim.Native.Nat.{ℕ, _+_, _-_, _*_, min, _<_, _≤_}
+-- and the next place in the input is neither before the row nor past the end. First of any rule that promises it of its parts, then of either reading.
+use Prim.Native.Nat.{ℕ, zero, suc, _+_, _-_, _*_, min, _<_, _≤_}
+use native.Mathlib.Nat.{suc-mul}
 use native.Mathlib.Omega.{arith}
 use mathlib.Core.List.{List}
 use mathlib.Core.Bool.{false}
-use mathlib.Core.Path.{_≡_, refl, sym, subst}
-use lib.ListN.{length, getD, length-replicate}
-use lib.Dec.{eqb}
+use mathlib.Core.Path.{_≡_, refl, sym, ap, subst, _∙_}
+use borrow.Author.Tests.{ltb-false}
+use lib.ListN.{length, getD, length-replicate, length-append}
+use lib.Dec.{eqb, ltb}
+use Rattle.steps.specs.Loop.{Turn}
 use Rattle.steps.specs.Place.{bytesFrom}
 use Rattle.steps.proofs.Laws.Place.{length-bytes}
 use Rattle.steps.proofs.Laws.Turns.{by-test, Leads, run-keeps}
 use Rattle.steps.proofs.Laws.Taken.{never-both}
 use Rattle.steps.specs.declared.Taken.{Taken}
 use Rattle.steps.specs.declared.Taken.the-variants.{Done, Fault}
-use Rattle.channels_read.specs.Channel.{Chan, CountRule, crateCount, channelOf, channelOut, channelTurn, isRun, spanBytes, spanOf}
+use Rattle.steps.specs.declared.Reading.{Reading}
+use Rattle.steps.specs.declared.Reading.the-variants.{Crate, Document}
+use Rattle.channels_read.specs.Channel.{Chan, CountRule, countRule, channelOf, channelOut, channelTurn, isRun, spanBytes, spanOf}
 use Rattle.channels_read.specs.Channels.{Chans, channelsOf, chansOut, chansTurn}
-use Rattle.channels_read.proofs.Laws.Channel.{StaysInside, crate-inside, channel-cases, span-onward}
+use Rattle.channels_read.proofs.Laws.Channel.{PutsInside, StaysInside, reading-inside, channel-cases, span-onward}
 use Rattle.channels_read.proofs.Laws.Channels.{chans-cases}
-use Rattle.flat_read.specs.Flat.{Flat, FlatRule, crateFlat, flatOf, flatOut, flatTurn, fourTo}
+use Rattle.flat_read.specs.Flat.{Flat, FlatRule, copies, copiesTo, timesOf, repeated, crateFlat, documentOnes, documentFlat, flatRule, flatOf, flatOut, flatTurn, fourTo}
 use Rattle.flat_read.proofs.Laws.Flat.{flat-cases}
 use Rattle.rows_read.specs.declared.kind.Kind.{Kind}
 use Rattle.rows_read.specs.declared.kind.Kind.the-variants as kind
-use Rattle.rows_read.specs.Row.{RowRule, RowParts, isFlatWidth, kindOf, restBy, rowBy, early, proved, crateStart, crateParts, crateRow}
+use Rattle.rows_read.specs.Row.{RowRule, RowParts, isFlatWidth, kindOf, restBy, rowBy, early, proved, wholePixel, crateStart, documentStart, startOf, partsOf, rowOf}
 use Rattle.rows_read.proofs.Laws.Kept.{Kept, kept-same, kept-then, kept-set, kept-spread}
 use Rattle.rows_read.proofs.Laws.Row.{not-flat, kind-cases}
 
@@ -85,10 +90,12 @@ module _ (rule : CountRule) (inside : StaysInside rule) (src : List ℕ) where
       step x p =
           channel-cases rule src channel width x (Leads P Q)
           (λ n d l e. let c = getD src (x .at) 0 in
-          let i = inside src (x .at) (x .done) width n d e in
+          let i = subst (PutsInside (x .done) width) e (inside src (x .at) (x .done) width d) in
           let o = span-onward src channel c n x l in
           (on-to (p .0) (span-kept src channel width c n x h i) (omega arith) (o .1), omega (arith, i, span-done src channel c n x)))
           (λ number d l e. sound-fault (p .0 .kept))
+          (λ n d l e. let i = subst (PutsInside (x .done) width) e (inside src (x .at) (x .done) width d) in
+          sound-fault (kept-then (p .0 .kept) (span-kept src channel width (getD src (x .at) 0) n x h i)))
           (λ d l. sound-fault (p .0 .kept))
           (λ d. sound-done (p .0))
 
@@ -164,7 +171,8 @@ row-sound parts sound src at store width =
     kind-cases src at (λ (z : Kind). Sound src (4 * width) at store (restBy parts src at width z s))
     (sound-fault k)
     (λ h e. sound-then (on-to on-start k (omega arith) (omega arith)) (sound .flat src (4 * width) at s 0 width (omega arith)))
-    (λ h e m. sound-then (on-to on-start k (omega arith) h) (sound .channels src (at + 4) s width))
+    (λ h e m. by-test (Sound src (4 * width) at store) (parts .mark src at width)
+    (λ t. sound-then (on-to on-start k (omega arith) h) (sound .channels src (at + 4) s width)) (λ t. sound-fault k))
     (λ h e m. sound-then (on-to on-start k (omega arith) h) (sound .flat src (4 * width) (at + 4) s 4 (width - 1) (omega arith))))
 
 module _ (rule : RowRule) (sound : SoundRow rule) (src : List ℕ) (at : ℕ) (store : List ℕ) (width : ℕ) where
@@ -176,18 +184,45 @@ module _ (rule : RowRule) (sound : SoundRow rule) (src : List ℕ) (at : ℕ) (s
   pub row-onward : (next : ℕ) → rule src at store width .0 ≡ Done next → at ≤ length src → (at ≤ next) × (next ≤ length src)
   row-onward = sound src at store width .onward
 
--- ---- The crate reading
+-- ---- Either reading
 
-crate-flat : SoundFlat crateFlat
-unfolding crateFlat
-crate-flat = record {
+length-copies : (n : ℕ) (q : List ℕ) → length (copies n q) ≡ n * length q
+length-copies zero q = omega arith
+length-copies (suc n) q = omega (arith, length-append q (copies n q), length-copies n q, suc-mul n (length q))
+
+copies-kept : (limit : ℕ) (store : List ℕ) (place n : ℕ) → place + 4 * n ≤ limit → Kept limit store (copiesTo store place n)
+unfolding copiesTo
+copies-kept limit store place n h =
+    let q = bytesFrom store (place - 4) 4 in
+    let size : length (copies n q) ≡ n * 4 = length-copies n q ∙ ap (λ (k : ℕ). n * k) (length-bytes store (place - 4) 4) in
+    kept-spread limit 1 store place (copies n q) (omega arith)
+
+document-ones-sound : (src : List ℕ) (limit at : ℕ) (store : List ℕ) (x : Flat) → x .at + 4 ≤ length src → FlatOn src limit at store x
+    → Leads (FlatOn src limit at store) (Sound src limit at store) (documentOnes src x)
+unfolding documentOnes
+document-ones-sound src limit at store x l p =
+    by-test Q (ltb (x .place) 4) (λ t. sound-fault (p .0 .kept))
+    (λ t. by-test Q (ltb (x .wanted) (timesOf src x)) (λ u. sound-fault (p .0 .kept))
+    (λ u. let fits = ltb-false (x .wanted) (timesOf src x) u in
+    go (timesOf src x) fits))
+  where
+    Q : Turn Flat (Taken × List ℕ) → Type 0
+    Q = Leads (FlatOn src limit at store) (Sound src limit at store)
+
+    go : (n : ℕ) → n ≤ x .wanted → FlatOn src limit at store (repeated x n)
+    go n fits = (on-to (p .0) (copies-kept limit (x .store) (x .place) n (omega (arith, p .1))) (omega arith) (omega arith), omega (arith, p .1))
+
+flat-rule-sound : (reading : Reading) → SoundFlat (flatRule reading)
+unfolding crateFlat documentFlat
+flat-rule-sound Crate = record {
   missing = λ src limit x h. four-kept src limit (x .at) (x .store) (x .place) h;
   ones = λ src limit at store x w l p. sound-fault (kept-then (p .0 .kept) (four-kept src limit (x .at) (x .store) (x .place) (omega (arith, p .1))));
 }
+flat-rule-sound Document = record { missing = λ src limit x h. kept-same limit (x .store); ones = λ src limit at store x w l p. document-ones-sound src limit at store x l p }
 
-start-kept : (src : List ℕ) (limit at : ℕ) (store : List ℕ) → 4 ≤ limit → Kept limit store (crateStart src at store)
-unfolding crateStart early
-start-kept src limit at store h =
+start-kept : (reading : Reading) (src : List ℕ) (limit at : ℕ) (store : List ℕ) → 4 ≤ limit → Kept limit store (startOf reading src at store)
+unfolding crateStart early documentStart
+start-kept Crate src limit at store h =
     let bytes : List ℕ = bytesFrom src (at + 1) (min 2 (length src - (at + 1))) in
     go (kindOf src at)
     (by-test (Kept limit store) (eqb (getD src at 0) 2)
@@ -199,7 +234,19 @@ start-kept src limit at store h =
     go kind.Flat k = k
     go (kind.Pixel next) k = kept-then (kept-then k (kept-set limit _ 0 _ (omega arith))) (kept-set limit _ 3 _ (omega arith))
     go (kind.Channels next) k = k
+start-kept Document src limit at store h = go (kindOf src at)
+  where
+    go : (z : Kind) → Kept limit store (wholePixel src at z store)
+    go kind.Missing = kept-same limit store
+    go kind.Flat = kept-same limit store
+    go (kind.Pixel next) = kept-spread limit 1 store 0 (bytesFrom src at 4) (omega (arith, length-bytes src at 4))
+    go (kind.Channels next) = kept-same limit store
 
-pub crate-sound : SoundRow crateRow
-unfolding crateRow crateParts
-crate-sound = row-sound crateParts (record { start = start-kept; flat = flat-sound crateFlat crate-flat; channels = channels-sound crateCount crate-inside })
+pub reading-sound : (reading : Reading) → SoundRow (rowOf reading)
+unfolding rowOf partsOf
+reading-sound reading =
+    row-sound (partsOf reading) (record {
+      start = start-kept reading;
+      flat = flat-sound (flatRule reading) (flat-rule-sound reading);
+      channels = channels-sound (countRule reading) (reading-inside reading);
+    })

@@ -3,7 +3,7 @@ use Prim.Native.Nat.{ℕ, zero, suc, _+_, _-_, _*_, min, _<_, _≤_}
 use native.Mathlib.Nat.{not-suc-le-zero}
 use native.Mathlib.Numerals.{add-one}
 use native.Mathlib.Omega.{arith}
-use mathlib.Core.Bool.{false}
+use mathlib.Core.Bool.{true, false}
 use mathlib.Core.List.{List, [], _∷_, _++_}
 use mathlib.Core.Path.{_≡_, refl, sym, ap, _∙_, subst}
 use borrow.Author.Tests.{lt-ltb, le-ltb}
@@ -20,9 +20,10 @@ use Rattle.channels_read.specs.Channel.{Chan, chan, crateCount, isRun, spanLeng
 use Rattle.channels_read.specs.Channels.{channelsOf}
 use Rattle.channels_read.proofs.Laws.Channel.{length-run, length-literals, crate-count, taken-run, taken-literals, turn-span, turn-done, span-onward, channel-starts, channel-falls}
 use Rattle.channels_read.proofs.Laws.Channels.{together}
+use Rattle.steps.specs.declared.Reading.the-variants.{Crate}
 use Rattle.rows_read.specs.Row.{crateStart, crateRow}
 use Rattle.rows_read.specs.Cut.{After, CutAt, behind, filled, CutRow}
-use Rattle.rows_read.proofs.Laws.Row.{row-channels}
+use Rattle.rows_read.proofs.Laws.Row.{marked-right, row-marked}
 
 -- ---- Bytes of which some are missing
 
@@ -126,7 +127,8 @@ module _ (src : List ℕ) (at : ℕ) (store : List ℕ) (width : ℕ) (c : CutRo
   -- the row is done, and the place after it is the end of the bytes
   pub cut-row : crateRow src at store width ≡ (Done (length src), cutStore)
   cut-row =
-      sym (row-channels src at store width false (sym (c .coded)) refl _ (crateStart src at store) (sym (c .mark)) refl (Done (length src), cutStore) (at + 4) refl channels-cut)
+      sym (row-marked Crate src at store width false (sym (c .coded)) refl _ (crateStart src at store) (sym (c .mark)) refl (Done (length src), cutStore) (at + 4) refl
+      (marked-right Crate src at (at + 4) (crateStart src at store) width true refl (Done (length src), cutStore) refl channels-cut))
 
 -- at most 128 bytes are missing, since a count is a byte
 pub cut-most : (src : List ℕ) (width : ℕ) (x : Chan) → CutAt src width x → getD src (x .at) 0 < 256 → width - x .done - behind src x ≤ 128

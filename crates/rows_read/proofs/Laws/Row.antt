@@ -13,14 +13,16 @@ use Rattle.steps.specs.Width.{isCoded}
 use Rattle.steps.proofs.Laws.Width.{coded-widths}
 use Rattle.steps.specs.Place.{bytesFrom, spread}
 use Rattle.steps.proofs.Laws.Turns.{by-test}
-use Rattle.channels_read.specs.Channel.{crateCount}
-use Rattle.flat_read.specs.Flat.{crateFlat, flatOf}
+use Rattle.channels_read.specs.Channel.{countRule}
+use Rattle.flat_read.specs.Flat.{flatRule, flatOf}
 use Rattle.steps.specs.declared.Taken.{Taken}
 use Rattle.steps.specs.declared.Taken.the-variants.{Fault}
+use Rattle.steps.specs.declared.Reading.{Reading}
+use Rattle.steps.specs.declared.Reading.the-variants.{Crate, Document}
 use Rattle.rows_read.specs.declared.kind.Kind.{Kind}
 use Rattle.rows_read.specs.declared.kind.Kind.the-variants.{Missing, Flat, Pixel, Channels}
 use Rattle.channels_read.specs.Channels.{channelsOf}
-use Rattle.rows_read.specs.Row.{RowParts, isFlatWidth, isMark, kindOf, restBy, rowBy, early, crateStart, crateParts, crateRow}
+use Rattle.rows_read.specs.Row.{RowParts, isFlatWidth, isMark, kindOf, restBy, rowBy, early, crateStart, documentStart, documentMark, startOf, markOf, partsOf, rowOf}
 
 -- ---- The kind of row
 
@@ -159,6 +161,44 @@ module _ (src : List ℕ) (at : ℕ) (k : Kind) (ek : k ≡ kindOf src at) where
   unfolding crateStart
   start-channels store store′ next e es = rw (es, ← ek, e)
 
+-- ---- By the document reading, and by the one that the code has in hand
+
+module _ (src : List ℕ) (at : ℕ) (store : List ℕ) (k : Kind) (ek : k ≡ kindOf src at) where
+  pub whole-pixel : (next : ℕ) (store′ : List ℕ) → k ≡ Pixel next → store′ ≡ spread 1 store 0 (bytesFrom src (next - 4) 4) → store′ ≡ documentStart src at store
+  unfolding documentStart
+  whole-pixel next store′ e es =
+      let first : next - 4 ≡ at = omega (arith, pixel-at src at k ek next e) in
+      rw (es, ← ek, e, first)
+
+  pub whole-there : (next : ℕ) → k ≡ Pixel next → 4 ≤ length src - (next - 4)
+  whole-there next e = omega (arith, pixel-at src at k ek next e)
+
+  pub whole-missing : k ≡ Missing → store ≡ documentStart src at store
+  unfolding documentStart
+  whole-missing e = rw (← ek, e)
+
+  pub whole-flat : k ≡ Flat → store ≡ documentStart src at store
+  unfolding documentStart
+  whole-flat e = rw (← ek, e)
+
+  pub whole-channels : (next : ℕ) → k ≡ Channels next → store ≡ documentStart src at store
+  unfolding documentStart
+  whole-channels next e = rw (← ek, e)
+
+module _ (reading : Reading) (src : List ℕ) (at : ℕ) where
+  pub start-crate : (store store′ : List ℕ) → reading ≡ Crate → store′ ≡ crateStart src at store → store′ ≡ startOf reading src at store
+  start-crate store store′ r e = rw r e
+
+  pub start-document : (store store′ : List ℕ) → reading ≡ Document → store′ ≡ documentStart src at store → store′ ≡ startOf reading src at store
+  start-document store store′ r e = rw r e
+
+  pub mark-crate : (width : ℕ) → reading ≡ Crate → true ≡ markOf reading src at width
+  mark-crate width r = rw r
+
+  pub mark-document : (width n : ℕ) → reading ≡ Document → n ≡ getD src (at + 2) 0 * 256 + getD src (at + 3) 0 → eqb n width ≡ markOf reading src at width
+  unfolding documentMark
+  mark-document width n r e = rw (r, e)
+
 -- ---- The row
 
 module _ (parts : RowParts) (src : List ℕ) (at : ℕ) (store : List ℕ) (width : ℕ) (b : Bool) (eb : b ≡ isFlatWidth width) where
@@ -174,36 +214,55 @@ module _ (parts : RowParts) (src : List ℕ) (at : ℕ) (store : List ℕ) (widt
 abbrev pub Marked : List ℕ → ℕ → Type 0
 Marked src at = Channels (at + 4) ≡ kindOf src at
 
-pub by-mark : (parts : RowParts) (src : List ℕ) (at : ℕ) (store : List ℕ) (width : ℕ) → false ≡ isFlatWidth width → Marked src at
+pub by-mark : (parts : RowParts) (src : List ℕ) (at : ℕ) (store : List ℕ) (width : ℕ) → false ≡ isFlatWidth width → Marked src at → parts .mark src at width ≡ true
     → parts .channels src (at + 4) (parts .start src at store) width ≡ rowBy parts src at store width
-by-mark parts src at store width eb marked = by-kind parts src at store width false eb (Channels (at + 4)) (parts .start src at store) refl marked refl
+by-mark parts src at store width eb marked right =
+    sym (rw right) ∙ by-kind parts src at store width false eb (Channels (at + 4)) (parts .start src at store) refl marked refl
 
 -- by the crate reading a mark leaves two bytes in the store
 pub marked-start : (src : List ℕ) (at : ℕ) (store : List ℕ) → Marked src at → early src at store ≡ crateStart src at store
 marked-start src at store marked = start-channels src at (Channels (at + 4)) marked store (early src at store) (at + 4) refl refl
 
--- the same by the crate reading, over the values that the code has in hand
-module _ (src : List ℕ) (at : ℕ) (store : List ℕ) (width : ℕ) (b : Bool) (eb : b ≡ isFlatWidth width) where
-  pub row-by-width : (a : Taken × List ℕ) → b ≡ true → a ≡ flatOf crateFlat src at store 0 width → a ≡ crateRow src at store width
-  unfolding crateRow crateParts
-  row-by-width a t e = e ∙ by-width crateParts src at store width b eb t
+-- a row with a mark, over the values that the code has in hand
+module _ (reading : Reading) (src : List ℕ) (at next : ℕ) (store : List ℕ) (width : ℕ) (b : Bool) (eb : b ≡ markOf reading src at width) where
+  pub marked-right : (a : Taken × List ℕ) → b ≡ true → a ≡ channelsOf (countRule reading) src next store width → a ≡ restBy (partsOf reading) src at width (Channels next) store
+  unfolding partsOf
+  marked-right a t e = e ∙ simp (sym eb ∙ t)
 
-  module _ (t : b ≡ false) (k : Kind) (store′ : List ℕ) (ek : k ≡ kindOf src at) (es : store′ ≡ crateStart src at store) where
-    crate-kind : restBy crateParts src at width k store′ ≡ crateRow src at store width
-    unfolding crateRow crateParts
-    crate-kind = by-kind crateParts src at store width b eb k store′ t ek es
+  pub marked-wrong : b ≡ false → (Fault 14, store) ≡ restBy (partsOf reading) src at width (Channels next) store
+  unfolding partsOf
+  marked-wrong t = simp (sym eb ∙ t)
 
-    pub row-missing : k ≡ Missing → (Fault 9, store′) ≡ crateRow src at store width
-    row-missing e = rw e at crate-kind
+-- the row, over the same
+module _ (reading : Reading) (src : List ℕ) (at : ℕ) (store : List ℕ) (width : ℕ) (b : Bool) (eb : b ≡ isFlatWidth width) where
+  pub row-by-width : (a : Taken × List ℕ) → b ≡ true → a ≡ flatOf (flatRule reading) src at store 0 width → a ≡ rowOf reading src at store width
+  unfolding rowOf partsOf
+  row-by-width a t e = e ∙ by-width (partsOf reading) src at store width b eb t
 
-    pub row-flat : (a : Taken × List ℕ) → k ≡ Flat → a ≡ flatOf crateFlat src at store′ 0 width → a ≡ crateRow src at store width
-    unfolding crateParts
-    row-flat a e f = f ∙ (rw e at crate-kind)
+  module _ (t : b ≡ false) (k : Kind) (store′ : List ℕ) (ek : k ≡ kindOf src at) (es : store′ ≡ startOf reading src at store) where
+    reading-kind : restBy (partsOf reading) src at width k store′ ≡ rowOf reading src at store width
+    unfolding rowOf partsOf
+    reading-kind = by-kind (partsOf reading) src at store width b eb k store′ t ek es
 
-    pub row-pixel : (a : Taken × List ℕ) (next : ℕ) → k ≡ Pixel next → a ≡ flatOf crateFlat src next store′ 4 (width - 1) → a ≡ crateRow src at store width
-    unfolding crateParts
-    row-pixel a next e f = f ∙ (rw e at crate-kind)
+    pub row-missing : k ≡ Missing → (Fault 9, store′) ≡ rowOf reading src at store width
+    row-missing e = rw e at reading-kind
 
-    pub row-channels : (a : Taken × List ℕ) (next : ℕ) → k ≡ Channels next → a ≡ channelsOf crateCount src next store′ width → a ≡ crateRow src at store width
-    unfolding crateParts
-    row-channels a next e f = f ∙ (rw e at crate-kind)
+    pub row-flat : (a : Taken × List ℕ) → k ≡ Flat → a ≡ flatOf (flatRule reading) src at store′ 0 width → a ≡ rowOf reading src at store width
+    unfolding partsOf
+    row-flat a e f = f ∙ (rw e at reading-kind)
+
+    pub row-pixel : (a : Taken × List ℕ) (next : ℕ) → k ≡ Pixel next → a ≡ flatOf (flatRule reading) src next store′ 4 (width - 1) → a ≡ rowOf reading src at store width
+    unfolding partsOf
+    row-pixel a next e f = f ∙ (rw e at reading-kind)
+
+    pub row-marked : (a : Taken × List ℕ) (next : ℕ) → k ≡ Channels next → a ≡ restBy (partsOf reading) src at width (Channels next) store′ → a ≡ rowOf reading src at store width
+    row-marked a next e f = f ∙ (rw e at reading-kind)
+
+    pub channels-there : (next : ℕ) → k ≡ Channels next → at + 4 ≤ length src
+    channels-there next e = subst There (sym ek ∙ e) (kind-cases src at There tt (λ h l. tt) (λ h l m. h) (λ h l m. tt))
+      where
+        There : Kind → Type 0
+        There Missing = Unit {0}
+        There Flat = Unit {0}
+        There (Pixel n) = Unit {0}
+        There (Channels n) = at + 4 ≤ length src

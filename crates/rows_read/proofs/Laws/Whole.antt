@@ -13,13 +13,14 @@ use Rattle.steps.proofs.Laws.Machines.{same-run}
 use Rattle.steps.proofs.Laws.Taken.{fault-done}
 use Rattle.steps.specs.declared.Taken.{Taken}
 use Rattle.steps.specs.declared.Taken.the-variants.{Done}
+use Rattle.steps.specs.declared.Reading.the-variants.{Crate}
 use Rattle.channels_read.specs.Channel.{Chan, chan, span, crateCount, channelTurn, channelOut, channelOf, spanLength, spanTaken, spanOf}
 use Rattle.channels_read.proofs.Laws.Channel.{channel-cases, taken-run, taken-literals, turn-done, turn-short, turn-span}
 use Rattle.channels_read.proofs.Laws.Channels.{Four, apart, together}
 use Rattle.flat_read.specs.Flat.{crateFlat, flatOf}
 use Rattle.rows_read.specs.declared.kind.Kind.{Kind}
 use Rattle.rows_read.specs.declared.kind.Kind.the-variants as kind
-use Rattle.rows_read.specs.Row.{isFlatWidth, kindOf, restBy, rowBy, crateStart, crateParts, crateRow}
+use Rattle.rows_read.specs.Row.{isFlatWidth, kindOf, restBy, rowBy, crateStart, partsOf, rowOf, crateRow}
 use Rattle.rows_read.specs.Middle.{Alike, Rests}
 use Rattle.rows_read.specs.Cut.{After, CutAt, Short, CutRow}
 use Rattle.rows_read.proofs.Laws.Alike.{byte-same}
@@ -27,7 +28,7 @@ use Rattle.rows_read.proofs.Laws.AloneChannels.{CountRests, span-same, 
 use Rattle.rows_read.proofs.Laws.AloneFlat.{flat-alone}
 use Rattle.rows_read.proofs.Laws.Behind.{KindRests, kind-same, start-alone, crate-count-alone, crate-flat-alone}
 use Rattle.rows_read.proofs.Laws.Row.{kind-cases, not-flat}
-use Rattle.rows_read.proofs.Laws.Bounds.{row-onward, crate-sound}
+use Rattle.rows_read.proofs.Laws.Bounds.{row-onward, reading-sound}
 
 -- ---- A channel
 
@@ -80,6 +81,7 @@ module _ (src : List ℕ) (channel width : ℕ) where
       channel-cases crateCount src channel width x (λ (z : Turn Chan (Taken × List ℕ)). channelTurn crateCount src channel width x ≡ z → lead (run (channelTurn crateCount src channel width) channelOut k) z ≡ (Done next, s) → Or)
       (λ m d l f et r. spans m d l f et r (channel-or k _ next s r))
       (λ number d l f et r. fault-done number next _ s r)
+      (λ m d l f et r. fault-done 9 next _ s r)
       (λ d l et r. fault-done 9 next _ s r)
       (λ d et r. inr (λ other alike. ap (lead (run (channelTurn crateCount other channel width) channelOut k)) (turn-done crateCount other channel width x d) ∙ r))
       refl e
@@ -159,14 +161,14 @@ module _ (src : List ℕ) (at : ℕ) (store : List ℕ) (width next : ℕ) (s : 
     Or = ((c : CutRow src at store width) × Short src width (c .end)) ⊎ Full src at store width (Done next, s)
 
     -- what stands before the rest of the row is all there
-    by-start : (k : Kind) → kindOf src at ≡ k → KindRests (length src) at k → ((other : List ℕ) → Alike (length src) src other → restBy crateParts other at width k (crateStart src at store) ≡ (Done next, s)) → Full src at store width (Done next, s)
-    unfolding crateRow rowBy crateParts
+    by-start : (k : Kind) → kindOf src at ≡ k → KindRests (length src) at k → ((other : List ℕ) → Alike (length src) src other → restBy (partsOf Crate) other at width k (crateStart src at store) ≡ (Done next, s)) → Full src at store width (Done next, s)
+    unfolding rowOf rowBy partsOf
     by-start k ek rests same other alike =
         let there : KindRests (length src) at (kindOf src at) = subst (KindRests (length src) at) (sym ek) rests in
-        simp coded (rw (kind-same src other (length src) alike at there, start-alone src other (length src) alike at store there, ek) (same other alike))
+        simp coded (rw (kind-same src other (length src) alike at there, start-alone src other (length src) alike at store Crate there, ek) (same other alike))
 
     four-or : kindOf src at ≡ kind.Channels (at + 4) → at + 4 ≤ length src → Four crateCount src (at + 4) (crateStart src at store) width next s → Or
-    unfolding crateParts
+    unfolding partsOf
     four-or ek h f =
         let some : 0 < width = omega (arith, not-flat width false (sym coded) refl) in
         ⊎-elim
@@ -193,10 +195,10 @@ module _ (src : List ℕ) (at : ℕ) (store : List ℕ) (width next : ℕ) (s : 
         (λ same. inr (by-start (kind.Channels (at + 4)) ek h (λ other alike. together crateCount other (at + 4) (crateStart src at store) width next s (four-same src (at + 4) (crateStart src at store) width next s some f other alike (same other alike)))))
         (channel-or-cut src (f .exponent) (f .blues) 3 width next s (f .fourth))
 
-    by-kind : restBy crateParts src at width (kindOf src at) (crateStart src at store) ≡ (Done next, s) → Or
-    unfolding crateParts
+    by-kind : restBy (partsOf Crate) src at width (kindOf src at) (crateStart src at store) ≡ (Done next, s) → Or
+    unfolding partsOf
     by-kind =
-        kind-cases src at (λ (z : Kind). kindOf src at ≡ z → restBy crateParts src at width z (crateStart src at store) ≡ (Done next, s) → Or)
+        kind-cases src at (λ (z : Kind). kindOf src at ≡ z → restBy (partsOf Crate) src at width z (crateStart src at store) ≡ (Done next, s) → Or)
         (λ ek e. fault-done 9 next _ s e)
         (λ h b ek e. inr (by-start kind.Flat ek h (flat-full at (crateStart src at store) 0 width e)))
         (λ h b m ek e. four-or ek h (apart crateCount src (at + 4) (crateStart src at store) width next s e))
@@ -204,7 +206,7 @@ module _ (src : List ℕ) (at : ℕ) (store : List ℕ) (width next : ℕ) (s : 
         refl
 
   by-width : crateRow src at store width ≡ (Done next, s) → ((c : CutRow src at store width) × Short src width (c .end)) ⊎ Full src at store width (Done next, s)
-  unfolding crateRow rowBy crateParts
+  unfolding rowOf rowBy partsOf
   by-width e = go (isFlatWidth width) refl
     where
       go : (b : Bool) → isFlatWidth width ≡ b → ((c : CutRow src at store width) × Short src width (c .end)) ⊎ Full src at store width (Done next, s)
@@ -214,4 +216,4 @@ module _ (src : List ℕ) (at : ℕ) (store : List ℕ) (width next : ℕ) (s : 
 -- "no answer but 9 rests on a missing byte", but for that cut
 pub row-or-cut : (src : List ℕ) (at : ℕ) (store : List ℕ) (width next : ℕ) (s : List ℕ) → at ≤ length src → crateRow src at store width ≡ (Done next, s)
     → ((c : CutRow src at store width) × Short src width (c .end)) ⊎ Full src at store width (Done next, s)
-row-or-cut src at store width next s h e = by-width src at store width next s (row-onward crateRow crate-sound src at store width next (ap (λ (z : Taken × List ℕ). z .0) e) h .1) e
+row-or-cut src at store width next s h e = by-width src at store width next s (row-onward crateRow (reading-sound Crate) src at store width next (ap (λ (z : Taken × List ℕ). z .0) e) h .1) e

@@ -1,6 +1,6 @@
 -- `rows_read::read_row` meets its contract: each `return` is a case of `rowBy`.
 use borrow.Author.Needs.{needs}
-use Rattle.rows_read.proofs.Laws.Row.{first-room, one-less, rest-room, row-by-width, row-missing, row-flat, row-pixel, row-channels}
+use Rattle.rows_read.proofs.Laws.Row.{first-room, one-less, rest-room, row-by-width, row-missing, row-flat, row-pixel, row-marked, channels-there}
 use Rattle.rows_read.proofs.read_row.Statement.{statement}
 use Rattle.rows_read.proofs.read_row.Tie as tie
 
@@ -43,8 +43,8 @@ read-flat-requires-3 c κs = search (rest-room, needs)
 enum-known-k-2 : tie.Need-enum-known-k-2
 enum-known-k-2 c = search needs
 
-read-channels-requires : tie.Need-read-channels-requires
-read-channels-requires c κs = search needs
+read-marked-requires : tie.Need-read-marked-requires
+read-marked-requires c κs = (search needs, search channels-there)
 
 same-length-2 : tie.Need-same-length-2
 same-length-2 c = search needs
@@ -68,7 +68,7 @@ same-length-5 : tie.Need-same-length-5
 same-length-5 c = search needs
 
 returns-5 : tie.Need-returns-5
-returns-5 c = search row-channels
+returns-5 c = search row-marked
 
 pub read-row-spec : {M : Type 1} → statement M
 read-row-spec =
@@ -87,7 +87,7 @@ read-row-spec =
     sub-read-flat
     read-flat-requires-3
     enum-known-k-2
-    read-channels-requires
+    read-marked-requires
     same-length-2
     returns-2
     same-length-3

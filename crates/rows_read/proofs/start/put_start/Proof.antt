@@ -1,88 +1,42 @@
--- `rows_read::start::put_start` meets its contract: each arm is a case of `proved`.
+-- `rows_read::start::put_start` meets its contract: the start by the reading that is asked for.
 use borrow.Author.Needs.{needs}
-use native.Mathlib.Omega.{arith}
-use lib.ListN.{length-set}
-use Rattle.rows_read.proofs.Laws.Row.{some-before, one-before, first-there, last-there, start-missing, start-flat, start-pixel, start-channels}
+use Rattle.rows_read.proofs.Laws.Row.{start-crate, start-document}
 use Rattle.rows_read.proofs.start.put_start.Statement.{statement}
 use Rattle.rows_read.proofs.start.put_start.Tie as tie
-
-put-early-requires : tie.Need-put-early-requires
-put-early-requires c κs = search needs
-
-enum-known-kind : tie.Need-enum-known-kind
-enum-known-kind c = search needs
-
-sub-store : tie.Need-sub-store
-sub-store c = search some-before
-
-shared-slice-read-store : tie.Need-shared-slice-read-store
-shared-slice-read-store c = search first-there
-
-slice-write-store : tie.Need-slice-write-store
-slice-write-store c = search needs
-
-sub-store-2 : tie.Need-sub-store-2
-sub-store-2 c = search one-before
-
-shared-slice-read-store-2 : tie.Need-shared-slice-read-store-2
-shared-slice-read-store-2 c = search last-there
-
-slice-write-store-2 : tie.Need-slice-write-store-2
-slice-write-store-2 c = simp length-set (omega arith)
 
 enum-told : tie.Need-enum-told
 enum-told c = search needs
 
+put-crate-requires : tie.Need-put-crate-requires
+put-crate-requires c κs = search needs
+
 enum-told-2 : tie.Need-enum-told-2
 enum-told-2 c = search needs
 
-enum-told-3 : tie.Need-enum-told-3
-enum-told-3 c = search needs
+put-document-requires : tie.Need-put-document-requires
+put-document-requires c κs = search needs
 
 same-length : tie.Need-same-length
 same-length c = search needs
 
 returns : tie.Need-returns
-returns c = search start-pixel
+returns c = search start-crate
 
 same-length-2 : tie.Need-same-length-2
 same-length-2 c = search needs
 
 returns-2 : tie.Need-returns-2
-returns-2 c = search start-missing
-
-same-length-3 : tie.Need-same-length-3
-same-length-3 c = search needs
-
-returns-3 : tie.Need-returns-3
-returns-3 c = search start-flat
-
-same-length-4 : tie.Need-same-length-4
-same-length-4 c = search needs
-
-returns-4 : tie.Need-returns-4
-returns-4 c = search start-channels
+returns-2 c = search start-document
 
 pub put-start-spec : {M : Type 1} → statement M
 put-start-spec =
     tie.close
     (tie.spec
-    put-early-requires
-    enum-known-kind
-    sub-store
-    shared-slice-read-store
-    slice-write-store
-    sub-store-2
-    shared-slice-read-store-2
-    slice-write-store-2
     enum-told
+    put-crate-requires
     enum-told-2
-    enum-told-3
+    put-document-requires
     same-length
     returns
     same-length-2
-    returns-2
-    same-length-3
-    returns-3
-    same-length-4
-    returns-4)
+    returns-2)
