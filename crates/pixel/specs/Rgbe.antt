@@ -6,6 +6,8 @@ use lib.Dec.{ltb, leb, eqb}
 use lib.ListN.{getD}
 use lib.Ieee.{size}
 use Rattle.steps.specs.Loop.{pick}
+use Rattle.steps.specs.declared.Reading.{Reading}
+use Rattle.steps.specs.declared.Reading.the-variants.{Crate, Document}
 use Rattle.pixel.specs.declared.Pixel.{Pixel}
 use Rattle.pixel.specs.declared.Rgbe.{Rgbe}
 use Rattle.pixel.specs.declared.Packed.{Packed}
@@ -18,13 +20,34 @@ use Rattle.pixel.specs.Units.{ofUnits, mag}
 unfoldable pub crateShift : ℕ → ℕ
 crateShift e = pick (ltb 128 e) (141 + (e - 128) % 32) (141 - (128 - e) % 32)
 
--- what a mantissa of 1 is worth at the exponent byte e, by the crate: 0 if e is 0
-unfoldable pub crateScale : ℕ → ℕ
-crateScale e = pick (eqb e 0) 0 (2 ^ crateShift e)
+-- ---- RULES 4.14: the document's value is m·2^(E-136), and 0 where E is 0
+
+-- 2^(E-136) is 2^docShift times 2^-149
+abbrev pub docShift : ℕ → ℕ
+docShift e = e + 13
+
+-- ---- Both, by the reading
+
+-- a mantissa of 1 is worth 2^shift times 2^-149, where E is not 0
+abbrev pub shiftOf : Reading → ℕ → ℕ
+shiftOf Crate = crateShift
+shiftOf Document = docShift
+
+-- what a mantissa of 1 is worth at the exponent byte e: 0 if e is 0
+unfoldable pub scaleOf : Reading → ℕ → ℕ
+scaleOf reading e = pick (eqb e 0) 0 (2 ^ shiftOf reading e)
+
+-- the sample
+unfoldable pub unitsOf : Reading → ℕ → ℕ → ℕ
+unitsOf reading m e = m * scaleOf reading e
 
 -- the crate's sample
-unfoldable pub crateUnits : ℕ → ℕ → ℕ
-crateUnits m e = m * crateScale e
+abbrev pub crateUnits : ℕ → ℕ → ℕ
+crateUnits = unitsOf Crate
+
+-- the document's value
+abbrev pub docUnits : ℕ → ℕ → ℕ
+docUnits = unitsOf Document
 
 -- the four bytes from byte i on
 abbrev pub rgbeAt : List ℕ → ℕ → Rgbe

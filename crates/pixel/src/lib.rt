@@ -1,4 +1,5 @@
 // Four bytes to three samples and back.
+use steps::Reading;
 ghost use mathlib.Core.Path.{_≡_};
 ghost use mathlib.Core.Bool.{false};
 ghost use Prim.Native.Nat.{_+_, _/_, _^_, _<_, _≤_, max};
@@ -8,8 +9,9 @@ ghost use lib.ListN.{length};
 ghost use Rattle.pixel.specs.Units.{ofUnits, mag};
 ghost use Rattle.pixel.specs.Rgbe.{
   crateShift,
-  crateScale,
-  crateUnits,
+  shiftOf,
+  scaleOf,
+  unitsOf,
   rgbeAt,
   pixelOf,
   peak,
@@ -58,7 +60,7 @@ const FIELD: u32 = 8388608;
 // 2^23: from here on an f32 is a whole number.
 const WHOLE: f32 = 8388608.0;
 
-// 2^j times 2^-149.
+// 2^j times 2^-149, where it has an exponent field.
 fn power(j: u32) -> f32
     requires { ⌜ (22 < j) × (j < 277) ⌝ }
     ensures { λ r. ⌜ r ≡ ofUnits (2 ^ j) ⌝ }
@@ -66,8 +68,20 @@ fn power(j: u32) -> f32
     f32::from_bits((j - 22) * FIELD)
 }
 
+// 2^j times 2^-149: below an exponent field it is one digit.
+fn any_power(j: u32) -> f32
+    requires { ⌜ j < 277 ⌝ }
+    ensures { λ r. ⌜ r ≡ ofUnits (2 ^ j) ⌝ }
+{
+    if j < 23 {
+        f32::from_bits(1 << j)
+    } else {
+        power(j)
+    }
+}
+
 // A mantissa of 1 is worth 2^shift times 2^-149 at the exponent byte e, by the crate's rule, if e is not 0.
-pub fn shift(e: u8) -> u32
+fn crate_shift(e: u8) -> u32
     ensures { λ r. ⌜ r ≡ crateShift e ⌝ }
 {
     if e > 128 {
@@ -77,11 +91,27 @@ pub fn shift(e: u8) -> u32
     }
 }
 
-// What a mantissa of 1 is worth at the exponent byte e, by the crate's rule.
-fn crate_scale(e: u8) -> f32
-    ensures { λ r. ⌜ r ≡ ofUnits (crateScale e) ⌝ }
+// The same by a reading.
+pub fn shift(reading: Reading, e: u8) -> u32
+    ensures { λ r. ⌜ r ≡ shiftOf reading e ⌝ }
 {
-    if e == 0 { 0.0 } else { power(shift(e)) }
+    match reading {
+        Reading::Crate => crate_shift(e),
+        Reading::Document => e as u32 + 13,
+    }
+}
+
+// What a mantissa of 1 is worth at the exponent byte e, by a reading. The crate's scales have an exponent field, and are not tested for one.
+fn scale(reading: Reading, e: u8) -> f32
+    ensures { λ r. ⌜ r ≡ ofUnits (scaleOf reading e) ⌝ }
+{
+    if e == 0 {
+        return 0.0;
+    }
+    match reading {
+        Reading::Crate => power(crate_shift(e)),
+        Reading::Document => any_power(e as u32 + 13),
+    }
 }
 
 // Four bytes as one word, the first lowest.
@@ -111,15 +141,15 @@ pub fn rgbe_at(bytes: &[u8], i: usize) -> Rgbe
     parts_of(word(bytes[i], bytes[i + 1], bytes[i + 2], bytes[i + 3]))
 }
 
-// Four bytes to three samples, by the crate's rule.
-pub fn from_bytes(q: Rgbe) -> Pixel
-    ensures { λ p. ⌜ p ≡ pixelOf crateUnits q ⌝ }
+// Four bytes to three samples, by a reading.
+pub fn from_bytes(reading: Reading, q: Rgbe) -> Pixel
+    ensures { λ p. ⌜ p ≡ pixelOf (unitsOf reading) q ⌝ }
 {
-    let scale = crate_scale(q.e);
+    let worth = scale(reading, q.e);
     Pixel {
-        r: (q.r as f32) * scale,
-        g: (q.g as f32) * scale,
-        b: (q.b as f32) * scale,
+        r: (q.r as f32) * worth,
+        g: (q.g as f32) * worth,
+        b: (q.b as f32) * worth,
     }
 }
 

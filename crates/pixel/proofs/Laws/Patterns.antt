@@ -1,11 +1,11 @@
--- Bit patterns: that of a whole number of 2^-149, and those with an exponent field alone, which are the powers of two.
+-- Bit patterns: that of a whole number of 2^-149, and those of the powers of two: an exponent field alone, or one digit below it.
 use mathlib.Core.Path.{_≡_, sym, ap, _∙_, subst}
 use mathlib.Core.Bool.{Bool, false, cond, not}
 use Prim.Native.Nat.{ℕ, zero, suc, _+_, _-_, _*_, _/_, _%_, _^_, _≤_, _<_}
-use native.Mathlib.Nat.{mul-div-cancel, mod-eq-of-lt, lt-irrefl}
+use native.Mathlib.Nat.{mul-one, mul-div-cancel, mod-eq-of-lt, lt-irrefl}
 use native.Mathlib.Omega.{arith}
 use lib.Dec.{T}
-use lib.Pow.{pow-add}
+use lib.Pow.{pow-add, pow-lt}
 use lib.Ieee.{Float, nan, inf, fin, binary32, up, down, ofBits, ofFields, odd, fits, size, toBits, nanBits}
 use lib.Ieee.Exact.{odd-sign}
 use lib.Ieee.Fits.{down-pos}
@@ -53,6 +53,20 @@ field-is x h k =
     let p = fields (x * 8388608) x 0 (omega arith) (omega arith) (omega arith) in
     value-unique (ofBits binary32 (x * 8388608)) (ofUnits (2 ^ (x + 22))) (2 ^ (x + 22)) (ofBits-fits binary32 (x * 8388608)) (units-fits (2 ^ (x + 22)))
     (subst (λ (z : Float). Exactly z (2 ^ (x + 22))) (sym p) (field-value x h k)) (power-exact (x + 22) (omega arith))
+
+-- ---- below an exponent field: the pattern is the whole number itself
+digits-value : (n : ℕ) → Exactly (ofFields binary32 false 0 n) n
+unfolding ofFields
+digits-value n = rw mul-one at (odd-sign 24 false n 0 149)
+
+pub digit-is : (j : ℕ) → j < 23 → ofBits binary32 (1 * 2 ^ j % 4294967296) ≡ ofUnits (2 ^ j)
+digit-is j h =
+    let t : 2 ^ j < 8388608 = pow-lt {j = 23} h in
+    let is : 1 * 2 ^ j % 4294967296 ≡ 2 ^ j = omega (arith, t) in
+    let p = fields (2 ^ j) 0 (2 ^ j) (omega arith) (omega arith) (omega arith) in
+    ap (ofBits binary32) is
+    ∙ value-unique (ofBits binary32 (2 ^ j)) (ofUnits (2 ^ j)) (2 ^ j) (ofBits-fits binary32 (2 ^ j)) (units-fits (2 ^ j))
+    (subst (λ (z : Float). Exactly z (2 ^ j)) (sym p) (digits-value (2 ^ j))) (power-exact j (omega arith))
 
 -- a pattern up to that of plus infinity is a number's
 pub number : (b : ℕ) → b ≤ 2139095040 → T (not (nanBits binary32 b))

@@ -4,9 +4,11 @@ use mathlib.Core.Logic.{⊎-elim}
 use Prim.Native.Nat.{ℕ, _+_, _-_, _%_, _^_, _≤_, _<_}
 use native.Mathlib.Omega.{arith}
 use borrow.Author.Tests.{eq-eqb, ne-eqb, lt-ltb, le-ltb}
+use Rattle.steps.specs.declared.Reading.{Reading}
+use Rattle.steps.specs.declared.Reading.the-variants.{Crate, Document}
 use Rattle.steps.proofs.Laws.Order.{lt-or-ge}
 use Rattle.pixel.specs.Units.{ofUnits, Exactly}
-use Rattle.pixel.specs.Rgbe.{crateShift, crateScale}
+use Rattle.pixel.specs.Rgbe.{crateShift, shiftOf, scaleOf}
 use Rattle.pixel.proofs.Laws.Units.{power-exact, zero-exact}
 
 -- ---- the crate's power by cases
@@ -21,19 +23,30 @@ crate-low e h = simp (le-ltb 128 e h)
 pub crate-bounds : (e : ℕ) → (110 ≤ crateShift e) × (crateShift e ≤ 172)
 crate-bounds e = ⊎-elim (λ h. omega (arith, crate-high e h)) (λ h. omega (arith, crate-low e h)) (lt-or-ge 128 e)
 
--- ---- a scale is a power of two, and 0 at the exponent byte 0
-pub crate-at : (e : ℕ) → 0 < e → crateScale e ≡ 2 ^ crateShift e
-unfolding crateScale
-crate-at e h = simp (ne-eqb e 0 (λ z. omega arith))
+-- ---- the power by the reading
+pub crate-shift-is : (reading : Reading) (e j : ℕ) → reading ≡ Crate → j ≡ crateShift e → j ≡ shiftOf reading e
+crate-shift-is reading e j r is = rw r is
 
-pub crate-none : (e : ℕ) → e ≤ 0 → crateScale e ≡ 0
-unfolding crateScale
-crate-none e h = simp (eq-eqb e 0 (omega arith))
+pub doc-shift-is : (reading : Reading) (e : ℕ) → reading ≡ Document → e + 13 ≡ shiftOf reading e
+doc-shift-is reading e r = rw r
 
--- what the crate multiplies by is exact
-pub scale-exact : (e : ℕ) → Exactly (ofUnits (crateScale e)) (crateScale e)
-scale-exact e =
+-- ---- by every reading a scale is a power of two, and 0 at the exponent byte 0
+pub scale-at : (reading : Reading) (e : ℕ) → 0 < e → scaleOf reading e ≡ 2 ^ shiftOf reading e
+unfolding scaleOf
+scale-at reading e h = simp (ne-eqb e 0 (λ z. omega arith))
+
+pub scale-none : (reading : Reading) (e : ℕ) → e ≤ 0 → scaleOf reading e ≡ 0
+unfolding scaleOf
+scale-none reading e h = simp (eq-eqb e 0 (omega arith))
+
+pub shift-most : (reading : Reading) (e : ℕ) → e < 256 → shiftOf reading e ≤ 268
+shift-most Crate e h = omega (arith, crate-bounds e)
+shift-most Document e h = omega arith
+
+-- what a mantissa is multiplied by is exact
+pub scale-exact : (reading : Reading) (e : ℕ) → e < 256 → Exactly (ofUnits (scaleOf reading e)) (scaleOf reading e)
+scale-exact reading e k =
     ⊎-elim
-    (λ h. subst (λ (n : ℕ). Exactly (ofUnits n) n) (sym (crate-at e h)) (power-exact (crateShift e) (omega (arith, crate-bounds e))))
-    (λ h. subst (λ (n : ℕ). Exactly (ofUnits n) n) (sym (crate-none e h)) zero-exact)
+    (λ h. subst (λ (n : ℕ). Exactly (ofUnits n) n) (sym (scale-at reading e h)) (power-exact (shiftOf reading e) (omega (arith, shift-most reading e k))))
+    (λ h. subst (λ (n : ℕ). Exactly (ofUnits n) n) (sym (scale-none reading e h)) zero-exact)
     (lt-or-ge 0 e)
