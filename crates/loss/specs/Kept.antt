@@ -4,9 +4,11 @@ use mathlib.Core.Logic.{_⊎_}
 use Prim.Native.Nat.{ℕ, _+_, _-_, _^_, _≤_, _<_}
 use lib.Dec.{T}
 use lib.Ieee.{Float}
+use Rattle.steps.specs.declared.Reading.{Reading}
+use Rattle.steps.specs.declared.Reading.the-variants.{Crate, Document}
 use Rattle.pixel.specs.declared.Pixel.{Pixel}
 use Rattle.pixel.specs.Units.{mag, plain, ofUnits}
-use Rattle.pixel.specs.Rgbe.{peak}
+use Rattle.pixel.specs.Rgbe.{peak, dark}
 
 -- all samples are finite, and none is negative
 pub record Numbers (p : Pixel) : Type 0 where
@@ -18,10 +20,19 @@ pub record Numbers (p : Pixel) : Type 0 where
 abbrev pub Between : ℕ → Type 0
 Between v = (v ≡ 0) ⊎ ((2 ^ 117 ≤ v) × (v < 2 ^ 180))
 
+-- 0, or above 1e-32 to below 2^127: what can be written, and is not written black
+abbrev pub Light : ℕ → Type 0
+Light v = (v ≡ 0) ⊎ ((dark < v) × (v < 2 ^ 276))
+
+-- where the largest has to lie for a reading to give it back
+abbrev pub rangeOf : Reading → ℕ → Type 0
+rangeOf Crate = Between
+rangeOf Document = Light
+
 -- both, of one pixel
-pub record InRange (p : Pixel) : Type 0 where
+pub record InRange (range : ℕ → Type 0) (p : Pixel) : Type 0 where
   pub numbers : Numbers p
-  pub largest : Between (peak p)
+  pub largest : range (peak p)
 
 -- the pixel's largest lies from 2^(e-1) to below 2^e: n is e + 149
 pub record Lies (p : Pixel) (n : ℕ) : Type 0 where

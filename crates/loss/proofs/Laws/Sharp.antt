@@ -3,11 +3,16 @@ use mathlib.Core.Path.{_≡_, refl}
 use mathlib.Core.Bool.{false}
 use Prim.Native.Nat.{ℕ, _-_, _^_}
 use lib.IntN.{pos, negsuc}
-use lib.Ieee.{Float, fin, round, size}
+use lib.Dec.{lit≤}
+use lib.Ieee.{Float, fin, round, size, ofBits}
+use Rattle.steps.specs.declared.Reading.the-variants.{Document}
 use Rattle.pixel.specs.declared.Pixel.{Pixel}
 use Rattle.pixel.specs.declared.Rgbe.{Rgbe}
 use Rattle.pixel.specs.Units.{ofUnits, mag}
-use Rattle.pixel.specs.Rgbe.{crateShift, crateScale, crateUnits, pixelOf, peak, bytesOf}
+use Rattle.pixel.specs.Rgbe.{crateShift, scaleOf, unitsOf, crateUnits, docUnits, pixelOf, peak, bytesOf}
+use Rattle.loss.specs.Dark.{lastBlack, grey}
+use Rattle.loss.specs.Kept.{zeros}
+use Rattle.loss.proofs.Laws.Kept.{black-back}
 
 abbrev zero : Float
 zero = fin false 0 (pos 0)
@@ -35,19 +40,24 @@ least-byte = refl
 
 -- the f32 next below 2^-32 comes back as 255/256
 pub next-dark : back (red (fin false (2 ^ 24 - 1) (negsuc 55))) ≡ red (fin false 255 (negsuc 7))
-unfolding round size ofUnits mag crateShift crateScale crateUnits peak bytesOf
+unfolding round size ofUnits mag crateShift scaleOf unitsOf peak bytesOf
 next-dark = refl
 
 -- 2^-33 and 2^31 come back as 1/2
 pub too-dark : back (red (fin false 1 (negsuc 32))) ≡ red (fin false 1 (negsuc 0))
-unfolding round size ofUnits mag crateShift crateScale crateUnits peak bytesOf
+unfolding round size ofUnits mag crateShift scaleOf unitsOf peak bytesOf
 too-dark = refl
 
 pub too-bright : back (red (fin false 1 (pos 31))) ≡ red (fin false 1 (negsuc 0))
-unfolding round size ofUnits mag crateShift crateScale crateUnits peak bytesOf
+unfolding round size ofUnits mag crateShift scaleOf unitsOf peak bytesOf
 too-bright = refl
 
 -- beside 1, where a step is 2^-7, the f32 next below 2^-7 comes back as 0
 pub most-lost : back (record { r = fin false 1 (pos 0); g = fin false (2 ^ 24 - 1) (negsuc 30); b = zero }) ≡ red (fin false 1 (pos 0))
-unfolding round size ofUnits mag crateShift crateScale crateUnits peak bytesOf
+unfolding round size ofUnits mag crateShift scaleOf unitsOf peak bytesOf
 most-lost = refl
+
+-- by the document reading the f32 nearest to 1e-32 comes back as 0
+pub last-black-back : pixelOf docUnits (bytesOf (grey lastBlack)) ≡ zeros
+unfolding ofBits mag peak
+last-black-back = black-back Document (grey lastBlack) (lit≤ tt)

@@ -6,13 +6,15 @@ use native.Mathlib.Nat.{lt-irrefl, lt-of-lt-of-le, mul-lt-mul-of-pos-left, mul-z
 use native.Mathlib.Omega.{arith}
 use lib.Dec.{lit≤}
 use lib.Pow.{pow-lt, pow-mono, shl-lt}
+use Rattle.steps.specs.declared.Reading.{Reading}
+use Rattle.steps.specs.declared.Reading.the-variants.{Crate, Document}
 use Rattle.steps.proofs.Laws.Order.{lt-or-ge}
 use Rattle.pixel.specs.Units.{ofUnits, Exactly, mag}
-use Rattle.pixel.specs.Rgbe.{crateShift, crateScale, crateUnits}
-use Rattle.loss.specs.Document.{docScale, docUnits, Alike}
+use Rattle.pixel.specs.Rgbe.{shiftOf, scaleOf, unitsOf, crateUnits, docUnits}
+use Rattle.loss.specs.Document.{Alike}
 use Rattle.pixel.proofs.Laws.Units.{units-exact, zero-exact, mag-is}
-use Rattle.pixel.proofs.Laws.Scales.{crate-at, crate-bounds, crate-none}
-use Rattle.loss.proofs.Laws.Scales.{doc-at, doc-none, scales-meet}
+use Rattle.pixel.proofs.Laws.Scales.{crate-bounds, scale-at, scale-none, shift-most}
+use Rattle.loss.proofs.Laws.Scales.{scales-meet}
 
 -- ---- every sample value is exact in f32
 exact-at : (m scale shift : ℕ) → m < 256 → shift ≤ 268 → scale ≡ 2 ^ shift → Exactly (ofUnits (m * scale)) (m * scale)
@@ -23,20 +25,20 @@ exact-at m scale shift h k is =
 exact-none : (m scale : ℕ) → scale ≡ 0 → Exactly (ofUnits (m * scale)) (m * scale)
 exact-none m scale is = subst (λ (n : ℕ). Exactly (ofUnits n) n) (sym (ap (λ (z : ℕ). m * z) is ∙ mul-zero m)) zero-exact
 
-pub crate-exact : (m e : ℕ) → m < 256 → Exactly (ofUnits (crateUnits m e)) (crateUnits m e)
-unfolding crateUnits
-crate-exact m e M = ⊎-elim (λ h. exact-at m (crateScale e) (crateShift e) M (omega (arith, crate-bounds e)) (crate-at e h)) (λ h. exact-none m (crateScale e) (crate-none e h)) (lt-or-ge 0 e)
-
-pub doc-exact : (m e : ℕ) → m < 256 → e < 256 → Exactly (ofUnits (docUnits m e)) (docUnits m e)
-unfolding docUnits
-doc-exact m e M E = ⊎-elim (λ h. exact-at m (docScale e) (e + 13) M (omega arith) (doc-at e h)) (λ h. exact-none m (docScale e) (doc-none e h)) (lt-or-ge 0 e)
+pub sample-exact : (reading : Reading) (m e : ℕ) → m < 256 → e < 256 → Exactly (ofUnits (unitsOf reading m e)) (unitsOf reading m e)
+unfolding unitsOf
+sample-exact reading m e M E =
+    ⊎-elim
+    (λ h. exact-at m (scaleOf reading e) (shiftOf reading e) M (shift-most reading e E) (scale-at reading e h))
+    (λ h. exact-none m (scaleOf reading e) (scale-none reading e h))
+    (lt-or-ge 0 e)
 
 -- ---- crate value and document value agree at 0 and from 97 to 159
 pub values-agree : (m e : ℕ) → Alike e → crateUnits m e ≡ docUnits m e
-unfolding crateUnits docUnits
+unfolding unitsOf
 values-agree m e =
     ⊎-elim
-    (λ z. let l : e ≤ 0 = omega arith in ap (λ (k : ℕ). m * k) (crate-none e l ∙ sym (doc-none e l)))
+    (λ z. let l : e ≤ 0 = omega arith in ap (λ (k : ℕ). m * k) (scale-none Crate e l ∙ sym (scale-none Document e l)))
     (λ h. ap (λ (k : ℕ). m * k) (scales-meet e (h .0) (h .1)))
 
 pub floats-agree : (m e : ℕ) → Alike e → ofUnits (crateUnits m e) ≡ ofUnits (docUnits m e)
@@ -54,14 +56,14 @@ outside e apart = (
 )
 
 pub values-differ : (m e : ℕ) → 0 < m → (Alike e → ⊥) → crateUnits m e ≡ docUnits m e → ⊥
-unfolding crateUnits docUnits
+unfolding unitsOf
 values-differ m e M apart same =
     let o = outside e apart in
     ⊎-elim
-    (λ h. less m (docScale e) (crateScale e) (e + 13) (crateShift e) M (doc-at e (o .0)) (crate-at e (o .0)) (omega (arith, crate-bounds e)) (sym same))
-    (λ h. less m (crateScale e) (docScale e) (crateShift e) (e + 13) M (crate-at e (o .0)) (doc-at e (o .0)) (omega (arith, crate-bounds e)) same)
+    (λ h. less m (scaleOf Document e) (scaleOf Crate e) (shiftOf Document e) (shiftOf Crate e) M (scale-at Document e (o .0)) (scale-at Crate e (o .0)) (omega (arith, crate-bounds e)) (sym same))
+    (λ h. less m (scaleOf Crate e) (scaleOf Document e) (shiftOf Crate e) (shiftOf Document e) M (scale-at Crate e (o .0)) (scale-at Document e (o .0)) (omega (arith, crate-bounds e)) same)
     (o .1)
 
 pub floats-differ : (m e : ℕ) → 0 < m → m < 256 → e < 256 → (Alike e → ⊥) → ofUnits (crateUnits m e) ≡ ofUnits (docUnits m e) → ⊥
 floats-differ m e M M' E apart same =
-    values-differ m e M apart (sym (mag-is _ _ (crate-exact m e M')) ∙ ap mag same ∙ mag-is _ _ (doc-exact m e M' E))
+    values-differ m e M apart (sym (mag-is _ _ (sample-exact Crate m e M' E)) ∙ ap mag same ∙ mag-is _ _ (sample-exact Document m e M' E))
