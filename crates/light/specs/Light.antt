@@ -1,27 +1,32 @@
--- The light of one pixel, over whole numbers of 2^-149: its largest sample, as the crate reading shows it.
+-- The light of one pixel, over whole numbers of 2^-149: its largest sample, as a reading shows it.
 use Prim.Native.Nat.{ℕ, max}
 use mathlib.Core.Bool.{Bool, not, _&&_, _||_}
 use lib.Dec.{ltb, eqb}
 use Rattle.steps.specs.Loop.{pick}
+use Rattle.steps.specs.declared.Reading.{Reading}
 use Rattle.pixel.specs.declared.Rgbe.{Rgbe}
-use Rattle.pixel.specs.Rgbe.{crateUnits}
+use Rattle.pixel.specs.Rgbe.{unitsOf}
 
 -- the largest of the three samples
-unfoldable pub lightOf : Rgbe → ℕ
-lightOf q = max (max (crateUnits (q .r) (q .e)) (crateUnits (q .g) (q .e))) (crateUnits (q .b) (q .e))
+unfoldable pub lightOf : Reading → Rgbe → ℕ
+lightOf reading q = max (max (unitsOf reading (q .r) (q .e)) (unitsOf reading (q .g) (q .e))) (unitsOf reading (q .b) (q .e))
 
--- all three samples are 0
+-- the largest mantissa; 0 at the exponent byte 0, where every sample is 0
+unfoldable pub topOf : Rgbe → ℕ
+topOf q = pick (eqb (q .e) 0) 0 (max (max (q .r) (q .g)) (q .b))
+
+-- all three samples are 0, by every reading (`black-light`)
 unfoldable pub isBlack : Rgbe → Bool
-isBlack q = eqb (lightOf q) 0
+isBlack q = eqb (topOf q) 0
 
 -- light whose exponent byte is outside 97 to 159, where the crate reading shows it at another brightness than the document
 unfoldable pub isMasked : Rgbe → Bool
 isMasked q = not (isBlack q) && (ltb (q .e) 97 || ltb 159 (q .e))
 
 -- the darker of two pixels, a black one counting for nothing; the first where they are equal
-unfoldable pub darker : Rgbe → Rgbe → Rgbe
-darker p q = pick (isBlack q) p (pick (isBlack p) q (pick (ltb (lightOf q) (lightOf p)) q p))
+unfoldable pub darker : Reading → Rgbe → Rgbe → Rgbe
+darker reading p q = pick (isBlack q) p (pick (isBlack p) q (pick (ltb (lightOf reading q) (lightOf reading p)) q p))
 
 -- the brighter of two pixels; the first where they are equal
-unfoldable pub brighter : Rgbe → Rgbe → Rgbe
-brighter p q = pick (ltb (lightOf p) (lightOf q)) q p
+unfoldable pub brighter : Reading → Rgbe → Rgbe → Rgbe
+brighter reading p q = pick (ltb (lightOf reading p) (lightOf reading q)) q p

@@ -1,10 +1,11 @@
-// The light of one pixel, as the crate reading shows it: its largest sample.
+// The light of one pixel, as a reading shows it: its largest sample.
 use pixel::Rgbe;
+use steps::Reading;
 ghost use mathlib.Core.Path.{_≡_};
-ghost use Prim.Native.Nat.{_*_, _^_, _<_, max};
+ghost use Prim.Native.Nat.{_*_, _^_, _≤_, _<_, max};
 ghost use lib.Dec.{ltb};
-ghost use Rattle.pixel.specs.Rgbe.{crateShift};
-ghost use Rattle.light.specs.Light.{lightOf, isBlack, isMasked, darker, brighter};
+ghost use Rattle.pixel.specs.Rgbe.{shiftOf};
+ghost use Rattle.light.specs.Light.{lightOf, topOf, isBlack, isMasked, darker, brighter};
 
 // The larger of two bytes.
 fn larger(a: u8, b: u8) -> u8
@@ -15,7 +16,7 @@ fn larger(a: u8, b: u8) -> u8
 
 // The largest mantissa; 0 at the exponent byte 0, where every sample is 0.
 pub fn mantissa(q: Rgbe) -> usize
-    ensures { λ r. ⌜ r * 2 ^ crateShift (q .e) ≡ lightOf q ⌝ }
+    ensures { λ r. ⌜ r ≡ topOf q ⌝ }
     ensures { λ r. ⌜ r < 256 ⌝ }
 {
     if q.e == 0 {
@@ -25,10 +26,11 @@ pub fn mantissa(q: Rgbe) -> usize
 }
 
 // A mantissa of 1 is worth 2^shift times 2^-149 at the exponent byte e.
-pub fn shift(e: u8) -> usize
-    ensures { λ r. ⌜ r ≡ crateShift e ⌝ }
+pub fn shift(reading: Reading, e: u8) -> usize
+    ensures { λ r. ⌜ r ≡ shiftOf reading e ⌝ }
+    ensures { λ r. ⌜ r ≤ 268 ⌝ }
 {
-    pixel::shift(e) as usize
+    pixel::shift(reading, e) as usize
 }
 
 // Whether m times 2^s is below n times 2^t. Powers from 2^8 on decide alike.
@@ -42,10 +44,15 @@ fn is_below(m: usize, s: usize, n: usize, t: usize) -> bool
 }
 
 // Whether a pixel shows less light than another.
-fn is_darker(p: Rgbe, q: Rgbe) -> bool
-    ensures { λ r. ⌜ r ≡ ltb (lightOf p) (lightOf q) ⌝ }
+fn is_darker(reading: Reading, p: Rgbe, q: Rgbe) -> bool
+    ensures { λ r. ⌜ r ≡ ltb (lightOf reading p) (lightOf reading q) ⌝ }
 {
-    is_below(mantissa(p), shift(p.e), mantissa(q), shift(q.e))
+    is_below(
+        mantissa(p),
+        shift(reading, p.e),
+        mantissa(q),
+        shift(reading, q.e),
+    )
 }
 
 // Whether all three samples are 0.
@@ -55,7 +62,7 @@ pub fn is_black(q: Rgbe) -> bool
     mantissa(q) == 0
 }
 
-// Whether a pixel shows light, and at another brightness than the document.
+// Whether a pixel shows light, and the crate reading shows it at another brightness than the document.
 pub fn is_masked(q: Rgbe) -> bool
     ensures { λ r. ⌜ r ≡ isMasked q ⌝ }
 {
@@ -69,8 +76,8 @@ pub fn is_masked(q: Rgbe) -> bool
 }
 
 // The darker of two pixels, a black one counting for nothing; the first where they are equal.
-pub fn darker(p: Rgbe, q: Rgbe) -> Rgbe
-    ensures { λ r. ⌜ r ≡ darker p q ⌝ }
+pub fn darker(reading: Reading, p: Rgbe, q: Rgbe) -> Rgbe
+    ensures { λ r. ⌜ r ≡ darker reading p q ⌝ }
 {
     if is_black(q) {
         return p;
@@ -78,12 +85,12 @@ pub fn darker(p: Rgbe, q: Rgbe) -> Rgbe
     if is_black(p) {
         return q;
     }
-    if is_darker(q, p) { q } else { p }
+    if is_darker(reading, q, p) { q } else { p }
 }
 
 // The brighter of two pixels; the first where they are equal.
-pub fn brighter(p: Rgbe, q: Rgbe) -> Rgbe
-    ensures { λ r. ⌜ r ≡ brighter p q ⌝ }
+pub fn brighter(reading: Reading, p: Rgbe, q: Rgbe) -> Rgbe
+    ensures { λ r. ⌜ r ≡ brighter reading p q ⌝ }
 {
-    if is_darker(p, q) { q } else { p }
+    if is_darker(reading, p, q) { q } else { p }
 }

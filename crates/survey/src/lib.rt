@@ -1,7 +1,8 @@
-// What is asked of a row's four-byte pixels: how many are black, how many show light at another brightness than the document, and which are the darkest and the brightest.
+// What is asked of a row's four-byte pixels: how many are black, how many show light that the crate reading shows at another brightness than the document, and which are the darkest and the brightest by a reading.
 pub mod stops;
 
 use pixel::Rgbe;
+use steps::Reading;
 ghost use mathlib.Core.Path.{_≡_};
 ghost use Prim.Native.Nat.{_+_, _*_, _≤_, _<_};
 ghost use lib.ListN.{length};
@@ -80,9 +81,9 @@ fn times(b: bool, n: usize) -> usize
 }
 
 // The totals with n pixels more that are the same.
-fn with_pixels(q: Rgbe, n: usize, t: Totals) -> Totals
+fn with_pixels(reading: Reading, q: Rgbe, n: usize, t: Totals) -> Totals
     requires { ⌜ (t .black + n < 18446744073709551616) × (t .masked + n < 18446744073709551616) ⌝ }
-    ensures { λ r. ⌜ r ≡ seenTimes n q t ⌝ }
+    ensures { λ r. ⌜ r ≡ seenTimes reading n q t ⌝ }
     ensures { λ r. ⌜ (r .black ≤ t .black + n) × (r .masked ≤ t .masked + n) ⌝ }
 {
     let darkest = t.darkest;
@@ -90,15 +91,15 @@ fn with_pixels(q: Rgbe, n: usize, t: Totals) -> Totals
     Totals {
         black: t.black + times(light::is_black(q), n),
         masked: t.masked + times(light::is_masked(q), n),
-        darkest: light::darker(darkest, q),
-        brightest: light::brighter(brightest, q),
+        darkest: light::darker(reading, darkest, q),
+        brightest: light::brighter(reading, brightest, q),
     }
 }
 
 // The totals with the n pixels of a row more.
-pub fn row(store: &[u8], n: usize, totals: Totals) -> Totals
+pub fn row(reading: Reading, store: &[u8], n: usize, totals: Totals) -> Totals
     requires { ⌜ (4 * n ≤ length (now store)) × (totals .black + n < 18446744073709551616) × (totals .masked + n < 18446744073709551616) ⌝ }
-    ensures { λ r. ⌜ r ≡ surveyOf (now (store .entry)) 0 n totals ⌝ }
+    ensures { λ r. ⌜ r ≡ surveyOf reading (now (store .entry)) 0 n totals ⌝ }
     ensures { λ r. ⌜ (r .black ≤ totals .black + n) × (r .masked ≤ totals .masked + n) ⌝ }
 {
     let mut t = totals;
@@ -106,7 +107,7 @@ pub fn row(store: &[u8], n: usize, totals: Totals) -> Totals
     let mut left = n;
     while 0 < left {
         let k = alike(store, i, left);
-        t = with_pixels(pixel::rgbe_at(store, i), k, t);
+        t = with_pixels(reading, pixel::rgbe_at(store, i), k, t);
         i += 4 * k;
         left -= k;
     }

@@ -2,18 +2,19 @@
 use Prim.Native.Nat.{ℕ, _+_, _-_, _*_, _%_, _^_, _<_, _≤_, min, max}
 use mathlib.Core.Bool.{Bool, true, false}
 use mathlib.Core.Logic.{⊎-elim, _⊎_}
-use mathlib.Core.Path.{_≡_, sym, ap, _∙_}
-use native.Mathlib.Nat.{mul-le-mul-left, mul-le-mul-right, mul-lt-mul-of-pos-right, lt-of-mul-lt-mul-right}
+use mathlib.Core.Path.{_≡_, refl, sym, ap, _∙_}
+use native.Mathlib.Nat.{zero-mul, mul-le-mul-left, mul-le-mul-right, mul-lt-mul-of-pos-right, lt-of-mul-lt-mul-right}
 use native.Mathlib.Omega.{arith}
-use borrow.Author.Tests.{ne-eqb, lt-ltb, le-ltb}
+use borrow.Author.Tests.{eq-eqb, ne-eqb, lt-ltb, le-ltb}
 use lib.Dec.{ltb, eqb}
 use lib.Pow.{pow-pos, pow-mono, shl-exact}
 use Rattle.steps.proofs.Laws.Order.{lt-or-ge}
+use Rattle.steps.specs.declared.Reading.{Reading}
 use Rattle.pixel.specs.declared.Rgbe.{Rgbe}
-use Rattle.pixel.specs.Rgbe.{crateShift, crateUnits}
+use Rattle.pixel.specs.Rgbe.{shiftOf, unitsOf}
 use Rattle.pixel.proofs.Laws.Numbers.{same-test, mul-pow-pow}
-use Rattle.pixel.proofs.Laws.Scales.{crate-at, crate-none}
-use Rattle.light.specs.Light.{lightOf, isBlack, isMasked, darker, brighter}
+use Rattle.pixel.proofs.Laws.Scales.{scale-at, scale-none}
+use Rattle.light.specs.Light.{lightOf, topOf, isBlack, isMasked, darker, brighter}
 
 -- ---- The largest sample is that of the largest mantissa
 
@@ -34,15 +35,23 @@ max-scale a b c = ⊎-elim less not-less (lt-or-ge a b)
         rw m (omega arith)
 
 module _ (q : Rgbe) where
-  pub light-none : q .e ≡ 0 → 0 * 2 ^ crateShift (q .e) ≡ lightOf q
-  unfolding lightOf crateUnits
-  light-none h = simp (crate-none (q .e) (omega arith)) (omega arith)
+  pub top-none : q .e ≡ 0 → 0 ≡ topOf q
+  unfolding topOf
+  top-none h = simp (eq-eqb (q .e) 0 h)
 
-  pub light-some : (a m n : ℕ) → (q .e ≡ 0 → ⊥) → a ≡ max (q .r) (q .g) → m ≡ max a (q .b) → n ≡ m → n * 2 ^ crateShift (q .e) ≡ lightOf q
-  unfolding lightOf crateUnits
-  light-some a m n h ea em en =
-      let l : 0 < q .e = omega arith in
-      rw (en, em, ea, ← crate-at (q .e) l) (simp max-scale)
+  pub top-some : (a m n : ℕ) → (q .e ≡ 0 → ⊥) → a ≡ max (q .r) (q .g) → m ≡ max a (q .b) → n ≡ m → n ≡ topOf q
+  unfolding topOf
+  top-some a m n h ea em en = simp (ne-eqb (q .e) 0 h) (rw (en, em, ea))
+
+light-is : (reading : Reading) (q : Rgbe) → topOf q * 2 ^ shiftOf reading (q .e) ≡ lightOf reading q
+unfolding lightOf unitsOf
+light-is reading q = ⊎-elim some none (lt-or-ge 0 (q .e))
+  where
+    some : 0 < q .e → topOf q * 2 ^ shiftOf reading (q .e) ≡ lightOf reading q
+    some h = rw (← top-some q (max (q .r) (q .g)) _ _ (λ z. omega arith) refl refl refl, ← scale-at reading (q .e) h) (simp max-scale)
+
+    none : q .e ≤ 0 → topOf q * 2 ^ shiftOf reading (q .e) ≡ lightOf reading q
+    none h = rw (← top-none q (omega arith)) (simp (scale-none reading (q .e) h) (omega arith))
 
 -- ---- Light compared by mantissas and powers: powers from 2^8 on decide alike
 
@@ -123,27 +132,29 @@ below-shifted m s n t u v a b hm hn eu ea ev eb =
     let kb : 8 + b ≤ 64 = omega arith in
     rw (shl-exact {a = m} 8 a 64 hm ka, shl-exact {a = n} 8 b 64 hn kb) (rw (ea, eu, eb, ev) (below-by-shift m s n t hm hn))
 
-pub darker-test : (p q : Rgbe) (m s n t : ℕ) (b : Bool) → m * 2 ^ crateShift (p .e) ≡ lightOf p → n * 2 ^ crateShift (q .e) ≡ lightOf q → s ≡ crateShift (p .e) → t ≡ crateShift (q .e)
-    → b ≡ ltb (m * 2 ^ s) (n * 2 ^ t) → b ≡ ltb (lightOf p) (lightOf q)
-darker-test p q m s n t b em en es et eb = rw (← em, ← en, ← es, ← et) eb
+pub darker-test : (reading : Reading) (p q : Rgbe) (m s n t : ℕ) (b : Bool) → m ≡ topOf p → n ≡ topOf q → s ≡ shiftOf reading (p .e) → t ≡ shiftOf reading (q .e)
+    → b ≡ ltb (m * 2 ^ s) (n * 2 ^ t) → b ≡ ltb (lightOf reading p) (lightOf reading q)
+darker-test reading p q m s n t b em en es et eb = rw (← light-is reading p, ← light-is reading q, ← em, ← en, ← es, ← et) eb
 
 -- ---- Black
 
-pub black-test : (q : Rgbe) (m : ℕ) → m * 2 ^ crateShift (q .e) ≡ lightOf q → eqb m 0 ≡ isBlack q
+pub black-test : (q : Rgbe) (m : ℕ) → m ≡ topOf q → eqb m 0 ≡ isBlack q
 unfolding isBlack
-black-test q m e = ⊎-elim some none (lt-or-ge 0 m)
-  where
-    none : m ≤ 0 → eqb m 0 ≡ eqb (lightOf q) 0
-    none h =
-        let z : m ≡ 0 = omega arith in
-        let l : lightOf q ≡ 0 = sym e ∙ rw z (omega arith) in
-        rw (z, l)
+black-test q m e = rw e
 
-    some : 0 < m → eqb m 0 ≡ eqb (lightOf q) 0
+-- a black pixel is one without light, by every reading
+pub black-light : (reading : Reading) (q : Rgbe) → isBlack q ≡ eqb (lightOf reading q) 0
+unfolding isBlack
+black-light reading q = rw (← light-is reading q) (⊎-elim some none (lt-or-ge 0 (topOf q)))
+  where
+    none : topOf q ≤ 0 → eqb (topOf q) 0 ≡ eqb (topOf q * 2 ^ shiftOf reading (q .e)) 0
+    none h = let z : topOf q ≡ 0 = omega arith in rw z (rw zero-mul)
+
+    some : 0 < topOf q → eqb (topOf q) 0 ≡ eqb (topOf q * 2 ^ shiftOf reading (q .e)) 0
     some h =
-        let k = mul-le-mul-right (2 ^ crateShift (q .e)) h in
-        let p = pow-pos (crateShift (q .e)) in
-        ne-eqb m 0 (λ z. omega arith) ∙ sym (ne-eqb (lightOf q) 0 (λ z. omega arith))
+        let k = mul-le-mul-right (2 ^ shiftOf reading (q .e)) h in
+        let p = pow-pos (shiftOf reading (q .e)) in
+        ne-eqb (topOf q) 0 (λ z. omega arith) ∙ sym (ne-eqb (topOf q * 2 ^ shiftOf reading (q .e)) 0 (λ z. omega arith))
 
 module _ (q : Rgbe) (b : Bool) (eb : b ≡ isBlack q) where
   pub masked-black : b ≡ true → false ≡ isMasked q
@@ -160,29 +171,30 @@ module _ (q : Rgbe) (b : Bool) (eb : b ≡ isBlack q) where
 
   -- ---- The darker and the brighter
 
-  pub darker-black : (p : Rgbe) → b ≡ true → p ≡ darker p q
-  unfolding darker
-  darker-black p t = simp (sym eb ∙ t)
-
-  module _ (p : Rgbe) (t : b ≡ false) (a : Bool) (ea : a ≡ isBlack p) where
-    pub darker-first : a ≡ true → q ≡ darker p q
+  module _ (reading : Reading) (p : Rgbe) where
+    pub darker-black : b ≡ true → p ≡ darker reading p q
     unfolding darker
-    darker-first u = simp (sym eb ∙ t, sym ea ∙ u)
+    darker-black t = simp (sym eb ∙ t)
 
-    module _ (d : Bool) (ed : d ≡ ltb (lightOf q) (lightOf p)) (u : a ≡ false) where
-      pub darker-is : d ≡ true → q ≡ darker p q
+    module _ (t : b ≡ false) (a : Bool) (ea : a ≡ isBlack p) where
+      pub darker-first : a ≡ true → q ≡ darker reading p q
       unfolding darker
-      darker-is v = simp (sym eb ∙ t, sym ea ∙ u, sym ed ∙ v)
+      darker-first u = simp (sym eb ∙ t, sym ea ∙ u)
 
-      pub darker-not : d ≡ false → p ≡ darker p q
-      unfolding darker
-      darker-not v = simp (sym eb ∙ t, sym ea ∙ u, sym ed ∙ v)
+      module _ (d : Bool) (ed : d ≡ ltb (lightOf reading q) (lightOf reading p)) (u : a ≡ false) where
+        pub darker-is : d ≡ true → q ≡ darker reading p q
+        unfolding darker
+        darker-is v = simp (sym eb ∙ t, sym ea ∙ u, sym ed ∙ v)
 
-module _ (p q : Rgbe) (d : Bool) (ed : d ≡ ltb (lightOf p) (lightOf q)) where
-  pub brighter-is : d ≡ true → q ≡ brighter p q
+        pub darker-not : d ≡ false → p ≡ darker reading p q
+        unfolding darker
+        darker-not v = simp (sym eb ∙ t, sym ea ∙ u, sym ed ∙ v)
+
+module _ (reading : Reading) (p q : Rgbe) (d : Bool) (ed : d ≡ ltb (lightOf reading p) (lightOf reading q)) where
+  pub brighter-is : d ≡ true → q ≡ brighter reading p q
   unfolding brighter
   brighter-is v = simp (sym ed ∙ v)
 
-  pub brighter-not : d ≡ false → p ≡ brighter p q
+  pub brighter-not : d ≡ false → p ≡ brighter reading p q
   unfolding brighter
   brighter-not v = simp (sym ed ∙ v)

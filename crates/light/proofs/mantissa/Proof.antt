@@ -1,11 +1,11 @@
 -- `light::mantissa` meets its contract: the largest sample is that of the largest mantissa.
 use borrow.Author.Needs.{needs}
-use Rattle.light.proofs.Laws.Light.{light-none, light-some}
+use Rattle.light.proofs.Laws.Light.{top-none, top-some}
 use Rattle.light.proofs.mantissa.Statement.{statement}
 use Rattle.light.proofs.mantissa.Tie as tie
 
 returns : tie.Need-returns
-returns c = (search light-none, search needs)
+returns c = (search top-none, search needs)
 
 larger-requires : tie.Need-larger-requires
 larger-requires c κs = search needs
@@ -17,7 +17,7 @@ wide-requires : tie.Need-wide-requires
 wide-requires c κs = search needs
 
 returns-2 : tie.Need-returns-2
-returns-2 c = (search light-some, search needs)
+returns-2 c = (search top-some, search needs)
 
 pub mantissa-spec : {M : Type 1} → statement M
 mantissa-spec =

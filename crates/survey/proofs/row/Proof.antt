@@ -10,10 +10,10 @@ use Rattle.survey.proofs.row.Statement.{statement}
 use Rattle.survey.proofs.row.Tie as tie
 
 abbrev Inv-loop : tie.InvT-loop
-Inv-loop store n t₀ i₀ left₀ t i left = (i + 4 * left ≤ length store) × (t .black + left ≤ t₀ .black + n) × (t .masked + left ≤ t₀ .masked + n) × (surveyOf store i left t ≡ surveyOf store 0 n t₀)
+Inv-loop reading store n t₀ i₀ left₀ t i left = (i + 4 * left ≤ length store) × (t .black + left ≤ t₀ .black + n) × (t .masked + left ≤ t₀ .masked + n) × (surveyOf reading store i left t ≡ surveyOf reading store 0 n t₀)
 
 abbrev μ-loop : tie.MeasureT-loop
-μ-loop store n t₀ i₀ left₀ t i left = left
+μ-loop reading store n t₀ i₀ left₀ t i left = left
 
 loop-holds : tie.Need-loop-holds Inv-loop μ-loop
 loop-holds c = (search needs, search needs, search needs, refl)

@@ -11,8 +11,8 @@ is-black-requires c κs = search needs
 times-requires : tie.Need-times-requires
 times-requires c κs = search needs
 
-add-t8 : tie.Need-add-t8
-add-t8 c = search needs
+add-t9 : tie.Need-add-t9
+add-t9 c = search needs
 
 is-masked-requires : tie.Need-is-masked-requires
 is-masked-requires c κs = search needs
@@ -20,8 +20,8 @@ is-masked-requires c κs = search needs
 times-requires-2 : tie.Need-times-requires-2
 times-requires-2 c κs = search needs
 
-add-t11 : tie.Need-add-t11
-add-t11 c = search needs
+add-t12 : tie.Need-add-t12
+add-t12 c = search needs
 
 darker-requires : tie.Need-darker-requires
 darker-requires c κs = search needs
@@ -38,10 +38,10 @@ with-pixels-spec =
     (tie.spec
     is-black-requires
     times-requires
-    add-t8
+    add-t9
     is-masked-requires
     times-requires-2
-    add-t11
+    add-t12
     darker-requires
     brighter-requires
     returns)
