@@ -8,10 +8,12 @@ use lib.Ieee.{Float}
 use Rattle.steps.specs.Amount.{amountOf}
 use Rattle.steps.specs.declared.amount.Amount.{Amount}
 use Rattle.steps.specs.Answer.{Answer, done, refused, refuse, refusalOf, Check, check, checked}
-use Rattle.pixel.specs.Rgbe.{crateUnits, pixelOf}
+use Rattle.steps.specs.declared.Reading.{Reading}
+use Rattle.steps.specs.declared.Reading.the-variants.{Crate, Document}
+use Rattle.pixel.specs.Rgbe.{unitsOf, pixelOf}
 use Rattle.header.specs.declared.Head.{Head}
 use Rattle.header.specs.Head.{headChecks, fieldsOf, headOf, taking}
-use Rattle.rows_read.specs.Row.{RowRule, crateRow}
+use Rattle.rows_read.specs.Row.{RowRule, rowOf}
 use Rattle.reader.specs.Samples.{SampleRule}
 use Rattle.reader.specs.Frame.{Left, storedOf, cleared, rowsOf}
 use Rattle.reader.specs.declared.ReadAnswer.{ReadAnswer}
@@ -58,11 +60,20 @@ ReadPromiseBy rowRule rule bytes widest highest out store answer out′ store′
 abbrev pub outputSize : ℕ → ℕ → Amount
 outputSize w h = amountOf (w * h * 3)
 
--- ---- The crate reading
+-- ---- Either reading
 
-unfoldable pub cratePixel : SampleRule
-cratePixel q = pixelOf crateUnits q
+unfoldable pub pixelBy : Reading → SampleRule
+pixelBy reading q = pixelOf (unitsOf reading) q
+
+abbrev pub cratePixel : SampleRule
+cratePixel = pixelBy Crate
+
+abbrev pub documentPixel : SampleRule
+documentPixel = pixelBy Document
+
+abbrev pub readOf : Reading → List ℕ → ℕ → ℕ → List Float → List ℕ → Answer Head × List Float × List ℕ
+readOf reading = readBy (rowOf reading) (pixelBy reading)
 
 -- what `reader::read` promises
-abbrev pub ReadPromise : List ℕ → ℕ → ℕ → List Float → List ℕ → ReadAnswer → List Float → List ℕ → Type 0
-ReadPromise = ReadPromiseBy crateRow cratePixel
+abbrev pub ReadPromise : Reading → List ℕ → ℕ → ℕ → List Float → List ℕ → ReadAnswer → List Float → List ℕ → Type 0
+ReadPromise reading = ReadPromiseBy (rowOf reading) (pixelBy reading)

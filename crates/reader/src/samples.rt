@@ -1,12 +1,13 @@
 // The samples of a row.
 use pixel::Pixel;
+use steps::Reading;
 ghost use mathlib.Core.Path.{_≡_};
 ghost use mathlib.Core.List.{[]};
 ghost use Prim.Native.Nat.{_+_, _*_, _≤_};
 ghost use lib.ListN.{length};
 ghost use Rattle.steps.specs.Place.{spread};
 ghost use Rattle.reader.specs.Samples.{three};
-ghost use Rattle.reader.specs.Read.{cratePixel};
+ghost use Rattle.reader.specs.Read.{pixelBy};
 ghost use Rattle.reader.specs.Inner.{samplesFrom};
 
 // A pixel's three samples from a place on.
@@ -20,15 +21,15 @@ fn put_pixel(out: &mut [f32], o: usize, p: Pixel)
 }
 
 // The samples of the row store's first n pixels, to the output from a place on.
-pub(crate) fn put_samples(store: &[u8], out: &mut [f32], from: usize, n: usize)
+pub(crate) fn put_samples(reading: Reading, store: &[u8], out: &mut [f32], from: usize, n: usize)
     requires { ⌜ (4 * n ≤ length (now store)) × (from + 3 * n ≤ length (now out)) ⌝ }
-    ensures { λ _. ⌜ now (out .exit) ≡ spread 1 (now (out .entry)) from (samplesFrom cratePixel (now (store .entry)) 0 n) ⌝ }
+    ensures { λ _. ⌜ now (out .exit) ≡ spread 1 (now (out .entry)) from (samplesFrom (pixelBy reading) (now (store .entry)) 0 n) ⌝ }
 {
     let mut i = 0;
     let mut o = from;
     let mut left = n;
     while 0 < left {
-        put_pixel(out, o, pixel::from_bytes(pixel::rgbe_at(store, i)));
+        put_pixel(out, o, pixel::from_bytes(reading, pixel::rgbe_at(store, i)));
         i += 4;
         o += 3;
         left -= 1;

@@ -17,13 +17,14 @@ use Rattle.header.specs.declared.Head.{Head}
 use Rattle.header.specs.declared.HeadAnswer.{HeadAnswer}
 use Rattle.header.specs.declared.HeadAnswer.the-variants.{Read, Refused}
 use Rattle.header.proofs.Laws.Head.{header-limits}
-use Rattle.rows_read.specs.Row.{RowRule, crateRow, CrateFault}
-use Rattle.rows_read.proofs.Laws.Faults.{crate-faults}
+use Rattle.steps.specs.declared.Reading.{Reading}
+use Rattle.rows_read.specs.Row.{RowRule, rowOf, RowFault}
+use Rattle.rows_read.proofs.Laws.Faults.{reading-faults}
 use Rattle.steps.specs.declared.Taken.{Taken}
 use Rattle.steps.specs.declared.Taken.the-variants.{Done, Fault}
 use Rattle.reader.specs.Samples.{SampleRule}
 use Rattle.reader.specs.Frame.{Stored, along, storedOf, cleared, stepOf, Left, rows, rowTurn, noRows, rowsOf}
-use Rattle.reader.specs.Read.{cratePixel, framed, readBy, paperOf, ReadPromiseBy, ReadPromise}
+use Rattle.reader.specs.Read.{pixelBy, framed, readBy, paperOf, ReadPromiseBy, ReadPromise}
 use Rattle.reader.specs.Inner.{frameAnswer}
 use Rattle.reader.specs.declared.ReadAnswer.{ReadAnswer}
 use Rattle.reader.specs.declared.ReadAnswer.the-variants as read
@@ -50,11 +51,11 @@ module _ (rowRule : RowRule) (rule : SampleRule) (bytes : List ℕ) (head : Head
     pub frame-again : (at : ℕ) → t ≡ Done at → Runs (rowTurn rowRule rule bytes (storedOf head)) noRows (head .height - (row + 1)) (rows at (row + 1) store′ out′) a
     frame-again at k = rows-again rowRule rule bytes (storedOf head) p row store out a r h t out′ store′ there at k
 
--- the numbers by which the crate's rows are refused
-pub rows-number : (rule : SampleRule) (bytes : List ℕ) (stored : Stored) (at : ℕ) (out : List Float) (store : List ℕ) (number row : ℕ)
-    → rowsOf crateRow rule bytes stored at out store .0 ≡ refused number row → CrateFault number
-rows-number rule bytes stored at out store number row e =
-    rows-faults crateRow rule bytes stored CrateFault (λ at s n s′ f. crate-faults bytes at s (stored .long) n s′ f) at out store number row e
+-- the numbers by which a reading's rows are refused
+pub rows-number : (reading : Reading) (rule : SampleRule) (bytes : List ℕ) (stored : Stored) (at : ℕ) (out : List Float) (store : List ℕ) (number row : ℕ)
+    → rowsOf (rowOf reading) rule bytes stored at out store .0 ≡ refused number row → RowFault reading number
+rows-number reading rule bytes stored at out store number row e =
+    rows-faults (rowOf reading) rule bytes stored (RowFault reading) (λ at s n s′ f. reading-faults reading bytes at s (stored .long) n s′ f) at out store number row e
 
 -- ---- How many samples a frame has
 
@@ -131,6 +132,6 @@ read-once-by rowRule rule bytes widest highest out store a b o o′ s s′ p q =
     let e = p ∙ sym q in
     (by-paper a b (ap (λ (z : Answer Head × List Float × List ℕ). z .0) e), ap (λ (z : Answer Head × List Float × List ℕ). z .1) e, ap (λ (z : Answer Head × List Float × List ℕ). z .2) e)
 
-pub read-once : (bytes : List ℕ) (widest highest : ℕ) (out : List Float) (store : List ℕ) (a b : ReadAnswer) (o o′ : List Float) (s s′ : List ℕ)
-    → ReadPromise bytes widest highest out store a o s → ReadPromise bytes widest highest out store b o′ s′ → (a ≡ b) × (o ≡ o′) × (s ≡ s′)
-read-once = read-once-by crateRow cratePixel
+pub read-once : (reading : Reading) (bytes : List ℕ) (widest highest : ℕ) (out : List Float) (store : List ℕ) (a b : ReadAnswer) (o o′ : List Float) (s s′ : List ℕ)
+    → ReadPromise reading bytes widest highest out store a o s → ReadPromise reading bytes widest highest out store b o′ s′ → (a ≡ b) × (o ≡ o′) × (s ≡ s′)
+read-once reading = read-once-by (rowOf reading) (pixelBy reading)

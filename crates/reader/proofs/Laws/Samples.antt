@@ -8,13 +8,15 @@ use lib.Ieee.{Float}
 use Rattle.pixel.specs.declared.Pixel.{Pixel}
 use Rattle.pixel.specs.declared.Rgbe.{Rgbe}
 use Rattle.steps.specs.Place.{spread}
-use Rattle.pixel.specs.Rgbe.{rgbeAt}
+use Rattle.steps.specs.declared.Reading.{Reading}
+use Rattle.pixel.specs.Rgbe.{rgbeAt, unitsOf, pixelOf}
 use Rattle.reader.specs.Samples.{SampleRule, three, placed}
 use Rattle.reader.specs.Frame.{along}
+use Rattle.reader.specs.Read.{pixelBy}
 use Rattle.reader.specs.Inner.{samplesFrom}
 
 -- one pixel's samples, and the rest
-pub samples-again : (rule : SampleRule) (store : List ℕ) (out out′ w : List Float) (i o n : ℕ) (q : Rgbe) (p : Pixel) → spread 1 out o (samplesFrom rule store i n) ≡ w → 0 < n
+samples-again : (rule : SampleRule) (store : List ℕ) (out out′ w : List Float) (i o n : ℕ) (q : Rgbe) (p : Pixel) → spread 1 out o (samplesFrom rule store i n) ≡ w → 0 < n
     → q ≡ rgbeAt store i → p ≡ rule q → out′ ≡ spread 1 out o (three p []) → spread 1 out′ (o + 3) (samplesFrom rule store (i + 4) (n - 1)) ≡ w
 unfolding spread samplesFrom
 samples-again rule store out out′ w i o zero q p e h eq ep eo = absurd (not-suc-le-zero h)
@@ -22,6 +24,12 @@ samples-again rule store out out′ w i o (suc n) q p e h eq ep eo =
     let k : suc n - 1 ≡ n = omega arith in
     let j : o + 3 ≡ o + 1 + 1 + 1 = omega arith in
     rw (eo, ep, eq, k, j) e
+
+-- the same by a reading
+pub pixels-again : (reading : Reading) (store : List ℕ) (out out′ w : List Float) (i o n : ℕ) (q : Rgbe) (p : Pixel) → spread 1 out o (samplesFrom (pixelBy reading) store i n) ≡ w → 0 < n
+    → q ≡ rgbeAt store i → p ≡ pixelOf (unitsOf reading) q → out′ ≡ spread 1 out o (three p []) → spread 1 out′ (o + 3) (samplesFrom (pixelBy reading) store (i + 4) (n - 1)) ≡ w
+unfolding pixelBy
+pixels-again reading = samples-again (pixelBy reading)
 
 pub samples-end : (rule : SampleRule) (store : List ℕ) (out w : List Float) (i o n : ℕ) → spread 1 out o (samplesFrom rule store i n) ≡ w → n ≤ 0 → out ≡ w
 unfolding spread samplesFrom

@@ -5,27 +5,27 @@ use Prim.Native.Nat.{_*_, _-_}
 use native.Mathlib.Omega.{arith}
 use lib.ListN.{length}
 use Rattle.steps.proofs.Laws.Loop.{Runs}
-use Rattle.rows_read.specs.Row.{crateRow}
+use Rattle.rows_read.specs.Row.{rowOf}
 use Rattle.reader.specs.Frame.{storedOf, rows, rowTurn, noRows, rowsOf}
-use Rattle.reader.specs.Read.{cratePixel}
+use Rattle.reader.specs.Read.{pixelBy}
 use Rattle.reader.proofs.Laws.Frame.{rows-start, row-room, row-next}
 use Rattle.reader.proofs.Laws.Read.{frame-done, frame-fault, frame-again}
 use Rattle.reader.proofs.read_rows.Statement.{statement}
 use Rattle.reader.proofs.read_rows.Tie as tie
 
 abbrev Inv-loop : tie.InvT-loop
-Inv-loop bytes head out₀ store₀ width height p₀ first₀ k₀ out store p first k =
+Inv-loop reading bytes head out₀ store₀ width height p₀ first₀ k₀ out store p first k =
     (length store ≡ length store₀) × (length out ≡ length out₀) × (first ≡ k * width)
-    × Runs (rowTurn crateRow cratePixel bytes (storedOf head)) noRows (height - k) (rows p k store out) (rowsOf crateRow cratePixel bytes (storedOf head) p₀ out₀ store₀)
+    × Runs (rowTurn (rowOf reading) (pixelBy reading) bytes (storedOf head)) noRows (height - k) (rows p k store out) (rowsOf (rowOf reading) (pixelBy reading) bytes (storedOf head) p₀ out₀ store₀)
 
 abbrev μ-loop : tie.MeasureT-loop
-μ-loop bytes head out₀ store₀ width height p₀ first₀ k₀ out store p first k = height - k
+μ-loop reading bytes head out₀ store₀ width height p₀ first₀ k₀ out store p first k = height - k
 
 loop-holds : tie.Need-loop-holds Inv-loop μ-loop
 loop-holds c = (search needs, search needs, omega arith, search rows-start)
 
 step-requires : tie.Need-step-requires Inv-loop μ-loop
-step-requires c κs = (search needs, search row-room)
+step-requires c κs = (search needs, search row-room, search needs)
 
 enum-known-t : tie.Need-enum-known-t Inv-loop μ-loop
 enum-known-t c = search needs

@@ -6,18 +6,18 @@ use native.Mathlib.Omega.{arith}
 use lib.ListN.{length}
 use Rattle.steps.specs.Place.{spread}
 use Rattle.reader.specs.Inner.{samplesFrom}
-use Rattle.reader.specs.Read.{cratePixel}
-use Rattle.reader.proofs.Laws.Samples.{samples-again, samples-end}
+use Rattle.reader.specs.Read.{pixelBy}
+use Rattle.reader.proofs.Laws.Samples.{pixels-again, samples-end}
 use Rattle.reader.proofs.samples.put_samples.Statement.{statement}
 use Rattle.reader.proofs.samples.put_samples.Tie as tie
 
 abbrev Inv-loop : tie.InvT-loop
-Inv-loop store out₀ from n i₀ o₀ left₀ out i o left =
+Inv-loop reading store out₀ from n i₀ o₀ left₀ out i o left =
     (i + 4 * left ≤ length store) × (o + 3 * left ≤ length out) × (length out ≡ length out₀)
-    × (spread 1 out o (samplesFrom cratePixel store i left) ≡ spread 1 out₀ from (samplesFrom cratePixel store 0 n))
+    × (spread 1 out o (samplesFrom (pixelBy reading) store i left) ≡ spread 1 out₀ from (samplesFrom (pixelBy reading) store 0 n))
 
 abbrev μ-loop : tie.MeasureT-loop
-μ-loop store out₀ from n i₀ o₀ left₀ out i o left = left
+μ-loop reading store out₀ from n i₀ o₀ left₀ out i o left = left
 
 loop-holds : tie.Need-loop-holds Inv-loop μ-loop
 loop-holds c = (search needs, search needs, search needs, refl)
@@ -44,8 +44,7 @@ loop-less : tie.Need-loop-less Inv-loop μ-loop
 loop-less c = search needs
 
 loop-again : tie.Need-loop-again Inv-loop μ-loop
-unfolding cratePixel
-loop-again c = (omega arith, search needs, search needs, search samples-again)
+loop-again c = (omega arith, search needs, search needs, pixels-again _ _ _ _ _ _ _ _ _ _ (c .before .before .before .before .before .before .before .loop .inv .3) (search needs) (c .before .before .before .before .rgbe-at .ensures) (c .before .before .before .from-bytes .ensures) (c .before .before .put-pixel .ensures))
 
 same-length : tie.Need-same-length Inv-loop μ-loop
 same-length c = search needs
