@@ -3,24 +3,25 @@ use Prim.Native.Nat.{ℕ}
 use mathlib.Core.List.{List}
 use mathlib.Core.Path.{_≡_}
 use lib.Ieee.{Float}
-use Rattle.pixel.specs.Rgbe.{crateUnits, pixelOf, packedOf}
+use Rattle.steps.specs.declared.Reading.{Reading}
+use Rattle.pixel.specs.Rgbe.{unitsOf, pixelOf, packedOf}
 use Rattle.header.specs.Head.{headerOf}
-use Rattle.rows_read.specs.Row.{crateRow}
-use Rattle.reader.specs.Read.{outputSize, cratePixel, readBy}
+use Rattle.reader.specs.Read.{outputSize, readOf}
 use Rattle.writer.specs.Write.{lengthOf, length4Of, worstAnswer, writeOf, write4Of, expectedSize}
 use Rattle.numbers.specs.Numbers.{sizes, single, numbers, counted, withOne, withTwo}
 use Rattle.doorwhisp.specs.Pixels.{pixel, rgbe, samplesOf, packedInto}
 
 -- ---- The reader
 
--- `doorwhisp_read_header`, by `header::read`
+-- `doorwhisp_read_header` and `doorwhisp_read_document_header`, by `header::read`: the header is the same in both readings
 abbrev pub ReadHeader : List ℕ → ℕ → ℕ → List ℕ → Type 0
 ReadHeader bytes widest highest answer = answer ≡ numbers sizes (headerOf bytes widest highest)
 
--- `doorwhisp_read`, by `reader::read`: the answer, the output and the row store afterwards
-abbrev pub Read : List ℕ → ℕ → ℕ → List Float → List ℕ → List ℕ → List Float → List ℕ → Type 0
-Read bytes widest highest out store answer out′ store′ =
-    (answer, out′, store′) ≡ withTwo sizes (readBy crateRow cratePixel bytes widest highest out store)
+-- `doorwhisp_read`, by `reader::read` in the crate reading, and `doorwhisp_read_document` in the document reading: the answer, the output and the
+-- row store afterwards
+abbrev pub Read : Reading → List ℕ → ℕ → ℕ → List Float → List ℕ → List ℕ → List Float → List ℕ → Type 0
+Read reading bytes widest highest out store answer out′ store′ =
+    (answer, out′, store′) ≡ withTwo sizes (readOf reading bytes widest highest out store)
 
 -- `doorwhisp_output_buffer_size`, by `reader::output_buffer_size`
 abbrev pub OutputBufferSize : ℕ → ℕ → List ℕ → Type 0
@@ -54,9 +55,9 @@ ExpectedBufferSize w h answer = answer ≡ numbers single (counted (expectedSize
 
 -- ---- One pixel
 
--- `doorwhisp_pixel_from_bytes`, by `pixel::from_bytes`: the samples afterwards
-abbrev pub PixelFromBytes : ℕ → ℕ → ℕ → ℕ → List Float → Type 0
-PixelFromBytes r g b e samples = samples ≡ samplesOf (pixelOf crateUnits (rgbe r g b e))
+-- `doorwhisp_pixel_from_bytes` and `doorwhisp_document_pixel_from_bytes`, by `pixel::from_bytes`: the samples afterwards
+abbrev pub PixelFromBytes : Reading → ℕ → ℕ → ℕ → ℕ → List Float → Type 0
+PixelFromBytes reading r g b e samples = samples ≡ samplesOf (pixelOf (unitsOf reading) (rgbe r g b e))
 
 -- `doorwhisp_pixel_to_bytes`, by `pixel::to_bytes`: the number returned, and the bytes afterwards
 abbrev pub PixelToBytes : Float → Float → Float → List ℕ → ℕ → List ℕ → Type 0

@@ -2,7 +2,9 @@
 use pixel::Packed;
 use pixel::Pixel;
 use pixel::Rgbe;
+use steps::Reading;
 use steps::refusal;
+ghost use Rattle.steps.specs.declared.Reading.the-variants.{Crate, Document};
 ghost use Rattle.doorwhisp.specs.Calls.{
   ReadHeader,
   Read,
@@ -30,7 +32,21 @@ pub extern "C" fn doorwhisp_read_header(
     numbers::head(answer, header::read(bytes, widest, highest));
 }
 
-// Reads a file's pixels into the output, by way of the row store.
+// Reads the header at the start of the bytes, by the Radiance document.
+#[no_mangle]
+pub extern "C" fn doorwhisp_read_document_header(
+    bytes: &[u8],
+    widest: usize,
+    highest: usize,
+    answer: &mut [u64; 8],
+)
+    ensures { λ _. ⌜ ReadHeader (now (bytes .entry)) widest highest (now (answer .exit)) ⌝ }
+{
+    let told = header::read(bytes, widest, highest);
+    numbers::head(answer, told);
+}
+
+// Reads a file's pixels into the output, by way of the row store, as zune-hdr does.
 #[no_mangle]
 pub extern "C" fn doorwhisp_read(
     bytes: &[u8],
@@ -40,9 +56,26 @@ pub extern "C" fn doorwhisp_read(
     store: &mut [u8],
     answer: &mut [u64; 8],
 )
-    ensures { λ _. ⌜ Read (now (bytes .entry)) widest highest (now (out .entry)) (now (store .entry)) (now (answer .exit)) (now (out .exit)) (now (store .exit)) ⌝ }
+    ensures { λ _. ⌜ Read Crate (now (bytes .entry)) widest highest (now (out .entry)) (now (store .entry)) (now (answer .exit)) (now (out .exit)) (now (store .exit)) ⌝ }
 {
-    numbers::read(answer, reader::read(bytes, widest, highest, out, store));
+    let told = reader::read(Reading::Crate, bytes, widest, highest, out, store);
+    numbers::read(answer, told);
+}
+
+// The same by the Radiance document.
+#[no_mangle]
+pub extern "C" fn doorwhisp_read_document(
+    bytes: &[u8],
+    widest: usize,
+    highest: usize,
+    out: &mut [f32],
+    store: &mut [u8],
+    answer: &mut [u64; 8],
+)
+    ensures { λ _. ⌜ Read Document (now (bytes .entry)) widest highest (now (out .entry)) (now (store .entry)) (now (answer .exit)) (now (out .exit)) (now (store .exit)) ⌝ }
+{
+    let told = reader::read(Reading::Document, bytes, widest, highest, out, store);
+    numbers::read(answer, told);
 }
 
 // How many samples a frame has.
@@ -123,12 +156,27 @@ pub extern "C" fn doorwhisp_expected_buffer_size(width: usize, height: usize, an
     numbers::amount(answer, writer::expected_buffer_size(width, height));
 }
 
-// Four bytes to three samples.
+// Four bytes to three samples, as zune-hdr does.
 #[no_mangle]
 pub extern "C" fn doorwhisp_pixel_from_bytes(r: u8, g: u8, b: u8, e: u8, samples: &mut [f32; 3])
-    ensures { λ _. ⌜ PixelFromBytes r g b e (now (samples .exit)) ⌝ }
+    ensures { λ _. ⌜ PixelFromBytes Crate r g b e (now (samples .exit)) ⌝ }
 {
-    let p = pixel::from_bytes(Rgbe { r, g, b, e });
+    let p = pixel::from_bytes(Reading::Crate, Rgbe { r, g, b, e });
+    *samples = [p.r, p.g, p.b];
+}
+
+// The same by the Radiance document.
+#[no_mangle]
+pub extern "C" fn doorwhisp_document_pixel_from_bytes(
+    r: u8,
+    g: u8,
+    b: u8,
+    e: u8,
+    samples: &mut [f32; 3],
+)
+    ensures { λ _. ⌜ PixelFromBytes Document r g b e (now (samples .exit)) ⌝ }
+{
+    let p = pixel::from_bytes(Reading::Document, Rgbe { r, g, b, e });
     *samples = [p.r, p.g, p.b];
 }
 

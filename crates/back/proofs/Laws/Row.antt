@@ -1,4 +1,4 @@
--- A row that is written is read back, whatever stands before and after it, by any reading that does with its parts what is asked for here; the crate reading does.
+-- A row that is written is read back, whatever stands before and after it, by any rule that does with the parts of a row what is asked for here; both readings do.
 use mathlib.Core.Path.{_≡_, refl, sym, ap, _∙_}
 use mathlib.Core.Bool.{Bool, true, false}
 use mathlib.Core.List.{List, _∷_, _++_, append-assoc}
@@ -7,20 +7,22 @@ use native.Mathlib.Omega.{arith}
 use lib.ListN.{length, getD, drop, length-append, length-drop}
 use lib.Seq.{drop-append-seam}
 use lib.Dec.{eqb, lit<, lit≤}
-use borrow.Author.Tests.{lt-ltb}
+use borrow.Author.Tests.{lt-ltb, eq-eqb}
 use Rattle.steps.specs.Loop.{pick}
 use Rattle.steps.specs.Place.{bytesFrom, spread}
 use Rattle.steps.proofs.Laws.Loop.{Runs}
 use Rattle.steps.specs.declared.Taken.{Taken}
 use Rattle.steps.specs.declared.Taken.the-variants.{Done}
-use Rattle.flat_read.specs.Flat.{FlatRule, isRepeat, flat, crateFlat, flatOf, flatOut, flatTurn, fourTo}
+use Rattle.flat_read.specs.Flat.{FlatRule, isRepeat, flat, flatRule, flatOf, flatOut, flatTurn, fourTo}
 use Rattle.rows_read.specs.Row as read
 use Rattle.flat_read.proofs.Laws.Flat.{NoRepeat, four-there, flat-starts, flat-done, flat-ordinary}
-use Rattle.channels_read.specs.Channel.{CountRule, crateCount}
+use Rattle.steps.specs.declared.Reading.{Reading}
+use Rattle.steps.specs.declared.Reading.the-variants.{Crate, Document}
+use Rattle.channels_read.specs.Channel.{CountRule, countRule}
 use Rattle.channels_read.specs.Channels.{chans, chansOut, chansTurn, channelsOf}
-use Rattle.channels_read.proofs.Laws.Channel.{TakesWhole, crate-whole}
+use Rattle.channels_read.proofs.Laws.Channel.{TakesWhole, reading-whole}
 use Rattle.channels_read.proofs.Laws.Channels.{chans-starts, chans-again, chans-done}
-use Rattle.rows_read.proofs.Laws.Row.{Marked, mark-by, kind-channels, by-width, by-mark, marked-start}
+use Rattle.rows_read.proofs.Laws.Row.{Marked, mark-by, kind-channels, by-width, by-mark, marked-start, marked-whole}
 use Rattle.channels_written.specs.Channel.{code, channel}
 use Rattle.rows_written.specs.Row.{codedRow, writtenRow}
 use Rattle.steps.specs.Width.{isCoded}
@@ -63,7 +65,7 @@ module _ (rule : CountRule) (w : ℕ) (src : List ℕ) where
       ∙ ap (λ (l : List ℕ). (Done (at + length c0 + length c1 + length c2 + length c3), l)) (sym (weave px store 0 p w))
       ∙ chans-done rule src w _ _ _ a r4 (lit≤ tt)
 
--- ---- What is asked of a reading
+-- ---- What is asked of a rule
 
 -- the mark of a row of w, whose four bytes stand at a place
 pub record MarkAt (src : List ℕ) (at w : ℕ) : Type 0 where
@@ -72,10 +74,11 @@ pub record MarkAt (src : List ℕ) (at w : ℕ) : Type 0 where
   pub fourth : getD src (at + 3) 0 ≡ w % 256
 
 -- after the right mark come the four channels, with counts taken whole; what the mark left in the store is covered by the row; the flat part is one by some rule
-pub record Reading (parts : read.RowParts) : Type 0 where
+pub record Fit (parts : read.RowParts) : Type 0 where
   pub counts : CountRule
   pub whole : TakesWhole counts
-  pub channels : (src : List ℕ) (at : ℕ) (store : List ℕ) (w : ℕ) → MarkAt src at w → parts .channels src (at + 4) store w ≡ channelsOf counts src (at + 4) store w
+  pub right : (src : List ℕ) (at w : ℕ) → MarkAt src at w → parts .mark src at w ≡ true
+  pub channels : (src : List ℕ) (at : ℕ) (store : List ℕ) (w : ℕ) → parts .channels src at store w ≡ channelsOf counts src at store w
   pub covered : (src : List ℕ) (at : ℕ) (store px : List ℕ) (p w : ℕ) → 0 < w → Marked src at
       → spread 1 (parts .start src at store) 0 (bytesFrom px p (4 * w)) ≡ spread 1 store 0 (bytesFrom px p (4 * w))
   pub flats : FlatRule
@@ -83,9 +86,9 @@ pub record Reading (parts : read.RowParts) : Type 0 where
 
 -- ---- A row of four channels
 
-module _ (parts : read.RowParts) (reading : Reading parts) where
+module _ (parts : read.RowParts) (fit : Fit parts) where
   -- where a mark stands, and then the four: just these bytes are taken, and the pixels are in the store
-  pub marked-there : (w : ℕ) (src px : List ℕ) (p : ℕ) (c0 c1 c2 c3 : List ℕ) → FourRead (reading .counts) px p w c0 c1 c2 c3 → (at : ℕ) (store rest : List ℕ) → 8 ≤ w → w ≤ 32767
+  pub marked-there : (w : ℕ) (src px : List ℕ) (p : ℕ) (c0 c1 c2 c3 : List ℕ) → FourRead (fit .counts) px p w c0 c1 c2 c3 → (at : ℕ) (store rest : List ℕ) → 8 ≤ w → w ≤ 32767
       → drop at src ≡ 2 ∷ 2 ∷ (w / 256) ∷ (w % 256) ∷ (c0 ++ (c1 ++ (c2 ++ (c3 ++ rest))))
       → (Done (at + length (2 ∷ 2 ∷ (w / 256) ∷ (w % 256) ∷ (c0 ++ (c1 ++ (c2 ++ c3))))), spread 1 store 0 (bytesFrom px p (4 * w))) ≡ read.rowBy parts src at store w
   marked-there w src px p c0 c1 c2 c3 four at store rest l h e =
@@ -103,11 +106,11 @@ module _ (parts : read.RowParts) (reading : Reading parts) where
       let next : ℕ = at + length (2 ∷ 2 ∷ (w / 256) ∷ (w % 256) ∷ (c0 ++ (c1 ++ (c2 ++ c3)))) in
       let size : next ≡ at + 4 + length c0 + length c1 + length c2 + length c3 = omega (arith, length-append c0 (c1 ++ (c2 ++ c3)), length-append c1 (c2 ++ c3), length-append c2 c3) in
       let start : List ℕ = parts .start src at store in
-      let body = channels-there (reading .counts) w src px p c0 c1 c2 c3 four (at + 4) start rest (rw end at (m3 .2)) next size in
-      ap (λ (l : List ℕ). (Done next, l)) (sym (reading .covered src at store px p w (omega arith) marked))
+      let body = channels-there (fit .counts) w src px p c0 c1 c2 c3 four (at + 4) start rest (rw end at (m3 .2)) next size in
+      ap (λ (l : List ℕ). (Done next, l)) (sym (fit .covered src at store px p w (omega arith) marked))
       ∙ body
-      ∙ sym (reading .channels src at start w mark)
-      ∙ by-mark parts src at store w (coded-width w l h) marked
+      ∙ sym (fit .channels src (at + 4) start w)
+      ∙ by-mark parts src at store w (coded-width w l h) marked (fit .right src at w mark)
 
   -- a coded row
   coded-there : (px : List ℕ) (p w : ℕ) (src : List ℕ) (at : ℕ) (store rest : List ℕ) → isCoded w ≡ true → drop at src ≡ codedRow px p w ++ rest
@@ -116,7 +119,7 @@ module _ (parts : read.RowParts) (reading : Reading parts) where
   coded-there px p w src at store rest t e =
       let widths = coded-widths w t in
       let c : ℕ → List ℕ = λ i. code (channel px i w) in
-      let there : (i : ℕ) → ReadAs (reading .counts) w (c i) (channel px i w) = λ i. code-read (reading .counts) (reading .whole) w (channel px i w) (length-channel px i w) in
+      let there : (i : ℕ) → ReadAs (fit .counts) w (c i) (channel px i w) = λ i. code-read (fit .counts) (fit .whole) w (channel px i w) (length-channel px i w) in
       marked-there w src px p (c p) (c (p + 1)) (c (p + 2)) (c (p + 3)) (there p, there (p + 1), there (p + 2), there (p + 3)) at store rest (widths .0) (widths .1) (e ∙ simp append-assoc)
 
 -- ---- a flat row
@@ -133,10 +136,10 @@ same-repeat src px at p e =
 
 -- where such pixels stand, a flat part takes just them, one after another
 pub flat-there : (rule : FlatRule) (px src : List ℕ) (p n at place : ℕ) (store rest : List ℕ) (a : Taken × List ℕ) → drop at src ≡ bytesFrom px p (4 * n) ++ rest → NoRepeat px p n
-    → Runs (flatTurn rule src) flatOut (length src - at) (flat at place n store) a → (Done (at + 4 * n), spread 1 store place (bytesFrom px p (4 * n))) ≡ a
+    → Runs (flatTurn rule src) flatOut (length src - at) (flat at place n 0 store) a → (Done (at + 4 * n), spread 1 store place (bytesFrom px p (4 * n))) ≡ a
 unfolding spread bytesFrom
 flat-there rule px src p zero at place store rest a e none r =
-    ap (λ (i : ℕ). (Done i, store)) (omega arith) ∙ flat-done rule src at place 0 store a r (omega arith)
+    ap (λ (i : ℕ). (Done i, store)) (omega arith) ∙ flat-done rule src at place 0 0 store a r (omega arith)
 flat-there rule px src p (suc n) at place store rest a e none r =
     let pixel : List ℕ = bytesFrom px p 4 in
     let others : List ℕ = bytesFrom px (p + 4) (4 * n) in
@@ -150,7 +153,7 @@ flat-there rule px src p (suc n) at place store rest a e none r =
     let shifted : (i : ℕ) → p + 4 * suc i ≡ p + 4 + 4 * i = λ i. omega arith in
     let later : NoRepeat px (p + 4) n = λ i h. ap (isRepeat px) (sym (shifted i)) ∙ none (suc i) (omega arith) in
     let filled : fourTo src at store place ≡ spread 1 store place (bytesFrom src at 4) = four-there src at store place room in
-    let turned = flat-ordinary rule src at place (suc n) store a r (omega arith) _ room ordinary (ap (λ (s : List ℕ). flat (at + 4) (place + 4) (suc n - 1) s) (sym filled)) in
+    let turned = flat-ordinary rule src at place (suc n) 0 store a r (omega arith) _ room ordinary (ap (λ (s : List ℕ). flat (at + 4) (place + 4) (suc n - 1) 0 s) (sym filled)) in
     let ends : at + 4 * suc n ≡ at + 4 + 4 * n = omega arith in
     let stored : spread 1 store place (bytesFrom px p (4 * suc n)) ≡ spread 1 (spread 1 store place (bytesFrom src at 4)) (place + 4) others =
     ap (spread 1 store place) (bytes-four px p n) ∙ spread-append 1 store place pixel others ∙ ap (λ (l : List ℕ). spread 1 (spread 1 store place l) (place + 4) others) (sym same) in
@@ -171,8 +174,8 @@ RowsBack rule =
     (px pre rest store : List ℕ) (p w : ℕ) → (isCoded w ≡ false → NoRepeat px p w)
     → rule (pre ++ (writtenRow px p w ++ rest)) (length pre) store w ≡ (Done (length pre + length (writtenRow px p w)), spread 1 store 0 (bytesFrom px p (4 * w)))
 
-pub row-back : (parts : read.RowParts) → Reading parts → RowsBack (read.rowBy parts)
-row-back parts reading px pre rest store p w none = go (isCoded w) refl
+pub row-back : (parts : read.RowParts) → Fit parts → RowsBack (read.rowBy parts)
+row-back parts fit px pre rest store p w none = go (isCoded w) refl
   where
     src : List ℕ
     src = pre ++ (writtenRow px p w ++ rest)
@@ -182,22 +185,22 @@ row-back parts reading px pre rest store p w none = go (isCoded w) refl
 
     go : (t : Bool) → isCoded w ≡ t → read.rowBy parts src (length pre) store w ≡ (Done (length pre + length (writtenRow px p w)), spread 1 store 0 (bytesFrom px p (4 * w)))
     go true t =
-        sym (coded-there parts reading px p w src (length pre) store rest t (here ∙ ap (λ (l : List ℕ). l ++ rest) (row-coded px p w t)))
+        sym (coded-there parts fit px p w src (length pre) store rest t (here ∙ ap (λ (l : List ℕ). l ++ rest) (row-coded px p w t)))
         ∙ ap (λ (l : List ℕ). (Done (length pre + length l), spread 1 store 0 (bytesFrom px p (4 * w)))) (sym (row-coded px p w t))
     go false t =
-        let a = flatOf (reading .flats) src (length pre) store 0 w in
-        let flat-row = flat-there (reading .flats) px src p w (length pre) 0 store rest a (here ∙ ap (λ (l : List ℕ). l ++ rest) (row-flat px p w t)) (none t) (flat-starts (reading .flats) src (length pre) store 0 w) in
+        let a = flatOf (fit .flats) src (length pre) store 0 w in
+        let flat-row = flat-there (fit .flats) px src p w (length pre) 0 store rest a (here ∙ ap (λ (l : List ℕ). l ++ rest) (row-flat px p w t)) (none t) (flat-starts (fit .flats) src (length pre) store 0 w) in
         sym (by-width parts src (length pre) store w true (is-flat w t) refl)
-        ∙ reading .flat src (length pre) store 0 w
+        ∙ fit .flat src (length pre) store 0 w
         ∙ sym flat-row
         ∙ ap (λ (n : ℕ). (Done (length pre + n), spread 1 store 0 (bytesFrom px p (4 * w)))) (sym (flat-size px p w t))
 
--- ---- The crate reading
+-- ---- Either reading
 
-start-covered : (src : List ℕ) (at : ℕ) (store px : List ℕ) (p w : ℕ) → 0 < w → Marked src at
+crate-covered : (src : List ℕ) (at : ℕ) (store px : List ℕ) (p w : ℕ) → 0 < w → Marked src at
     → spread 1 (read.crateStart src at store) 0 (bytesFrom px p (4 * w)) ≡ spread 1 store 0 (bytesFrom px p (4 * w))
 unfolding read.early
-start-covered src at store px p w h marked = rw (← marked-start src at store marked) (by-two (eqb (getD src at 0) 2) refl)
+crate-covered src at store px p w h marked = rw (← marked-start src at store marked) (by-two (eqb (getD src at 0) 2) refl)
   where
     two : (m : ℕ) → m ≤ 2 → spread 1 (spread 1 store 1 (bytesFrom src (at + 1) m)) 0 (bytesFrom px p (4 * w)) ≡ spread 1 store 0 (bytesFrom px p (4 * w))
     two m l = early-covered src px store m (at + 1) p w l h
@@ -207,17 +210,28 @@ start-covered src at store px p w h marked = rw (← marked-start src at store m
     by-two true e = two (min 2 (length src - (at + 1))) (omega arith)
     by-two false e = refl
 
-pub crate-reading : Reading read.crateParts
-unfolding read.crateParts
-crate-reading = record {
-  counts = crateCount;
-  whole = crate-whole;
-  channels = λ src at store w mark. refl;
-  covered = start-covered;
-  flats = crateFlat;
+start-covered : (reading : Reading) (src : List ℕ) (at : ℕ) (store px : List ℕ) (p w : ℕ) → 0 < w → Marked src at
+    → spread 1 (read.startOf reading src at store) 0 (bytesFrom px p (4 * w)) ≡ spread 1 store 0 (bytesFrom px p (4 * w))
+start-covered Crate src at store px p w h marked = crate-covered src at store px p w h marked
+start-covered Document src at store px p w h marked = rw (← marked-whole src at store marked)
+
+mark-right : (reading : Reading) (src : List ℕ) (at w : ℕ) → MarkAt src at w → read.markOf reading src at w ≡ true
+unfolding read.documentMark
+mark-right Crate src at w mark = refl
+mark-right Document src at w mark = rw (mark .third, mark .fourth) (eq-eqb (w / 256 * 256 + w % 256) w (omega arith))
+
+pub reading-fit : (reading : Reading) → Fit (read.partsOf reading)
+unfolding read.partsOf
+reading-fit reading = record {
+  counts = countRule reading;
+  whole = reading-whole reading;
+  right = mark-right reading;
+  channels = λ src at store w. refl;
+  covered = start-covered reading;
+  flats = flatRule reading;
   flat = λ src at store start wanted. refl;
 }
 
-pub crate-row-back : RowsBack read.crateRow
-unfolding read.crateRow
-crate-row-back = row-back read.crateParts crate-reading
+pub reading-row-back : (reading : Reading) → RowsBack (read.rowOf reading)
+unfolding read.rowOf
+reading-row-back reading = row-back (read.partsOf reading) (reading-fit reading)

@@ -223,6 +223,10 @@ by-mark parts src at store width eb marked right =
 pub marked-start : (src : List ℕ) (at : ℕ) (store : List ℕ) → Marked src at → early src at store ≡ crateStart src at store
 marked-start src at store marked = start-channels src at (Channels (at + 4)) marked store (early src at store) (at + 4) refl refl
 
+-- and by the document reading none
+pub marked-whole : (src : List ℕ) (at : ℕ) (store : List ℕ) → Marked src at → store ≡ documentStart src at store
+marked-whole src at store marked = whole-channels src at store (Channels (at + 4)) marked (at + 4) refl
+
 -- a row with a mark, over the values that the code has in hand
 module _ (reading : Reading) (src : List ℕ) (at next : ℕ) (store : List ℕ) (width : ℕ) (b : Bool) (eb : b ≡ markOf reading src at width) where
   pub marked-right : (a : Taken × List ℕ) → b ≡ true → a ≡ channelsOf (countRule reading) src next store width → a ≡ restBy (partsOf reading) src at width (Channels next) store
