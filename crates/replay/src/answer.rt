@@ -27,7 +27,7 @@ pub(crate) fn line(
         return print::unknown(page, put);
     };
     match name {
-        Name::Read => reads::read(line, next, a, b, bytes, samples, lent, page, put),
+        Name::Read(by) => reads::read(by, line, next, a, b, bytes, samples, lent, page, put),
         Name::Head => reads::head(line, next, a, b, bytes, page, put),
         Name::Size => writes::size(line, next, a, b, page, put),
         Name::Worst => writes::worst(line, next, a, b, page, put),

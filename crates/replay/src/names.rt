@@ -1,8 +1,9 @@
 // What a line asks for: its first field.
+use steps::Reading;
 
 // The names of the cases.
 pub(crate) enum Name {
-    Read,
+    Read(Reading),
     Head,
     Size,
     Worst,
@@ -33,7 +34,10 @@ fn writer_name(field: &[u8]) -> Name {
 // What a line asks for whose first field this is.
 pub(crate) fn name_of(field: &[u8]) -> Name {
     if check::same(field, b"read") {
-        return Name::Read;
+        return Name::Read(Reading::Crate);
+    }
+    if check::same(field, b"readd") {
+        return Name::Read(Reading::Document);
     }
     if check::same(field, b"head") {
         return Name::Head;

@@ -7,6 +7,7 @@ use line_fields::lent;
 use line_fields::text;
 use line_fields::text::Pair;
 use reader::ReadAnswer;
+use steps::Reading;
 ghost use Prim.Native.Nat.{_≤_};
 
 // ` W H TAKEN`.
@@ -57,6 +58,7 @@ fn answer_header(
 
 // Reads a file into the lent output by way of the lent row store, and puts its answer and both.
 fn answer_file(
+    reading: Reading,
     bytes: &[u8],
     widest: usize,
     highest: usize,
@@ -70,7 +72,7 @@ fn answer_file(
 {
     lent::fill_samples(out);
     lent::fill_bytes(store);
-    let answer = reader::read(bytes, widest, highest, out, store);
+    let answer = reader::read(reading, bytes, widest, highest, out, store);
     let p = put_read(page, put, answer);
     let q = print::samples(page, p, out);
     print::bytes(page, q, store)
@@ -109,6 +111,7 @@ pub(crate) fn head(
 
 // The last field of such a line, BYTES, from `at` on, with the buffers that are lent.
 fn read_bytes(
+    reading: Reading,
     line: &[u8],
     at: usize,
     widest: usize,
@@ -124,13 +127,14 @@ fn read_bytes(
 {
     let count = hex::bytes_at(line, at, bytes);
     match count {
-        Number::Is(n) => answer_file(&bytes[..n], widest, highest, out, store, page, put),
+        Number::Is(n) => answer_file(reading, &bytes[..n], widest, highest, out, store, page, put),
         Number::Missing => print::unknown(page, put),
     }
 }
 
-// `read MAXW MAXH OUTLEN STORELEN BYTES`, the fields from OUTLEN on from `at` on.
+// `read` and `readd MAXW MAXH OUTLEN STORELEN BYTES`, the fields from OUTLEN on from `at` on.
 pub(crate) fn read(
+    reading: Reading,
     line: &[u8],
     at: usize,
     widest: usize,
@@ -161,5 +165,16 @@ pub(crate) fn read(
     }
     let out = &mut samples[..room];
     let store = &mut lent[..kept];
-    read_bytes(line, next, widest, highest, bytes, out, store, page, put)
+    read_bytes(
+        reading,
+        line,
+        next,
+        widest,
+        highest,
+        bytes,
+        out,
+        store,
+        page,
+        put,
+    )
 }
