@@ -1,4 +1,4 @@
-"""The replay program's fixed list: cases with answers by the rules, then cases that the unchanged Rust answers.
+"""The replay program's fixed list: cases with answers by the rules, cases of the document reading, then cases that the unchanged Rust answers.
 
 Use: list.py ORACLE      (from the repository's top; compare/list builds the oracle first)
 
@@ -8,34 +8,11 @@ import struct
 import subprocess
 import sys
 
+import reading
+from lines import file, hexed, lent, lent_samples, samples_of
+from list_document import by_hand, by_reading
+
 HEADER = "#?RADIANCE\nSOFTWARE=zune-hdr\nFORMAT=32-bit_rle_rgbe\n\n-Y {h} +X {w}\n"
-
-
-def hexed(data):
-    return bytes(data).hex() or "-"
-
-
-def lent(n):
-    """A lent buffer of n bytes."""
-    return hexed(i % 251 for i in range(n))
-
-
-def sample(value):
-    """The bit pattern of a whole number below 2^24."""
-    if value == 0:
-        return "00000000"
-    size = value.bit_length()
-    return format((126 + size) << 23 | (value << (24 - size)) & 0x7FFFFF, "08x")
-
-
-def lent_samples(n):
-    """A lent output of n samples."""
-    return "".join(sample(i % 251) for i in range(n)) or "-"
-
-
-def file(w, h, rows=()):
-    """A short header, and rows after it."""
-    return f"#?RGBE\n\n-Y {h} +X {w}\n".encode() + bytes(rows)
 
 
 # ---- Answers by the rules
@@ -77,11 +54,6 @@ def reader_refusals():
 
 
 P, Q = [10, 20, 30, 129], [40, 50, 60, 130]
-
-
-def samples_of(pixels):
-    """The samples of four-byte pixels with exponent bytes from 97 to 159."""
-    return "".join(struct.pack(">f", m * 2.0 ** (pixel[3] - 136)).hex() for pixel in pixels for m in pixel[:3])
 
 
 def in_row(number, w, h, above, row, behind=(), spare=0):
@@ -254,7 +226,8 @@ def no_form():
         "head 1 1 012", "head 1 1 01 ", "head 1 1 01 02", "head 1 - 01", "read 1 1 1 01", "read 1 1 1 1", "read 1 1 1 1 1 -", "read 1 1 - 1 -",
         "read 1 1 18446744073709551615 1 -", "read 1 1 1 18446744073709551615 -", "len 1 1", "len 1 1 3f80000", "len 1 1 3f8000000", "len 1 1 3F800000",
         "len4 1 1 1", "len4 1 1 80 ", "write 1 1 -", "write 1 1 01 -", "write 1 1 18446744073709551615 -", "write4 1 1 1 0x", "write4 1 1 1",
-        "write5 1 1 1 -", "\0", "size 1\0 1", "é",
+        "write5 1 1 1 -", "\0", "size 1\0 1", "é", "readd", "readd 1 1 1 1", "readd 1 1 1 01", "readd 1 1 1 1 1 -", "readd 1 1 1 1 0", "readd 01 1 1 1 -",
+        "readd 1 1 18446744073709551615 1 -", "readd 1 1 1 18446744073709551615 -", "readD 9 9 0 0 -", "readdd 9 9 0 0 -",
     ):
         yield line, "?"
 
@@ -442,7 +415,13 @@ def main():
     pairs = sky_lines("compare/skies")
     for part in (reader_refusals, old_runs, writer_refusals, pixels, bounds_of_bytes, worst_lengths, no_form):
         pairs += part()
-    by_document = len(pairs)
+    by_rules = len(pairs)
+    for line, answer in by_hand():
+        if reading.answer(line) != answer:
+            sys.exit(f"list: compare/reading.py answers otherwise than by hand: {line[:200]}")
+        pairs.append((line, answer))
+    pairs += [(line, reading.answer(line)) for line in dict.fromkeys(by_reading()) if line not in dict(pairs)]
+    by_document = len(pairs) - by_rules
     lines = list(dict.fromkeys(rust_cases(lambda line: answers([line])[0])))
     for line, answer in zip(lines, answers(lines), strict=True):
         if answer[0] in "~!?" or answer.startswith("25 "):
@@ -454,7 +433,7 @@ def main():
         f.write("\n".join(line for line, _ in pairs).encode())
     with open("crates/replay/stdout", "wb") as f:
         f.write("".join(answer + "\n" for _, answer in pairs).encode())
-    print(f"list: {by_document + 1} lines by the rules, {len(lines)} by the Rust")
+    print(f"list: {by_rules + 1} lines by the rules, {by_document} of the document reading, {len(lines)} by the Rust")
 
 
 main()

@@ -1,0 +1,184 @@
+"""The document reading, made from docs/RULES.md and the ticket that ordered it, and from nothing of the crates.
+
+`answer` answers the replay program's lines `readd`. Only Python's own library is used.
+"""
+
+import struct
+
+LARGEST = 65535  # the largest limit that counts
+BLANKS = b"\t\n\x0b\x0c\r "
+
+
+class Refused(Exception):
+    """A refusal: its number. Those of a row, 9 and 14, are met while that row is read."""
+
+    def __init__(self, number):
+        super().__init__(number)
+        self.number = number
+
+
+class Source:
+    """The bytes, and the place up to which they are taken."""
+
+    def __init__(self, data):
+        self.data, self.place = data, 0
+
+    def take(self, count):
+        """The next bytes; a missing one is 9."""
+        taken = self.data[self.place:self.place + count]
+        if len(taken) < count:
+            raise Refused(9)
+        self.place += count
+        return taken
+
+    def until(self, end):
+        """The bytes up to `end`, which is taken too, or to the end of the bytes."""
+        start = self.place
+        found = self.data.find(end, start)
+        self.place = len(self.data) if found < 0 else found + 1
+        return self.data[start:self.place]
+
+
+# ---- the header, and the checks 1 to 8
+
+
+def size(field):
+    digits = field[1:] if field[:1] == b"+" else field
+    if not digits.isdigit() or int(digits) >= 2**64:
+        raise Refused(3)
+    return int(digits)
+
+
+def header(source):
+    """Width and height; 1, 2 or 3."""
+    if source.until(b"\n") not in (b"#?RADIANCE\n", b"#?RGBE\n"):
+        raise Refused(1)
+    while source.until(b"\n")[:1] not in (b"\n", b""):
+        pass
+    fields = [source.until(end).strip(BLANKS) for end in (b" ", b" ", b" ", b"\n")]
+    axes = fields[0], fields[2]
+    if axes not in ((b"-Y", b"+X"), (b"+X", b"-Y")):
+        raise Refused(2)
+    first, second = size(fields[1]), size(fields[3])
+    return (second, first) if axes[0] == b"-Y" else (first, second)
+
+
+def checked_header(source, widest, highest, samples, places):
+    """Width and height, where the limits, the output and the row store allow them."""
+    width, height = header(source)
+    for number, failed in (
+        (4, height > min(highest, LARGEST)),
+        (5, width > min(widest, LARGEST)),
+        (6, samples < 3 * width * height),
+        (7, width == 0),
+        (8, places < 4 * width),
+    ):
+        if failed:
+            raise Refused(number)
+    return width, height
+
+
+# ---- rows
+
+
+def flat_part(source, store, place, end):
+    """Pixels from a place of the row store to the row's end. Only whole pixels and copies enter the store."""
+    ahead = 0  # the repeats directly ahead
+    while place < end:
+        four = source.take(4)
+        if four[:3] != b"\1\1\1":
+            store[place:place + 4] = four
+            place, ahead = place + 4, 0
+            continue
+        length = 4 * four[3] * 256**ahead
+        if place == 0 or place + length > end:
+            raise Refused(14)
+        store[place:place + length] = store[place - 4:place] * (length // 4)
+        place, ahead = place + length, ahead + 1
+
+
+def channel(source, store, first, width):
+    """Every fourth byte of the row store, from the first on. A count that passes the row's end is at fault before its bytes are looked at."""
+    done = 0
+    while done < width:
+        count = source.take(1)[0]
+        length = count - 128 if count > 128 else count
+        if done + length > width:
+            raise Refused(14)
+        value = source.take(1)[0] if count > 128 else None
+        for at in range(done, done + length):
+            store[4 * at + first] = source.take(1)[0] if value is None else value
+        done += length
+
+
+def row(source, store, width):
+    """One row into the row store; 9 or 14."""
+    end = 4 * width
+    if not 8 <= width <= 32767 or source.data[source.place:source.place + 1] != b"\2":
+        return flat_part(source, store, 0, end)
+    four = source.take(4)
+    if four[1] != 2 or four[2] >= 128:
+        store[0:4] = four
+        return flat_part(source, store, 4, end)
+    if 256 * four[2] + four[3] != width:
+        raise Refused(14)
+    for first in range(4):
+        channel(source, store, first, width)
+
+
+# ---- the frame
+
+
+def sample(mantissa, exponent):
+    """m * 2^(E-136), and 0 where E is 0: exact in Python's numbers, and an f32."""
+    return mantissa * 2.0 ** (exponent - 136) if exponent else 0.0
+
+
+PATTERNS = [[struct.pack(">f", sample(m, e)) for m in range(256)] for e in range(256)]
+
+
+def rows(source, width, height, out, store):
+    """The rows one after another into the output: the number of rows that were read, and the refusal or 0."""
+    store[:4 * width] = bytes(4 * width)
+    for y in range(height):
+        try:
+            row(source, store, width)
+        except Refused as refused:
+            return y, refused.number
+        for x in range(width):
+            r, g, b, e = store[4 * x:4 * x + 4]
+            place = 3 * (y * width + x)
+            out[place:place + 3] = PATTERNS[e][r], PATTERNS[e][g], PATTERNS[e][b]
+    return height, 0
+
+
+def read(data, widest, highest, out, store):
+    """Number, place, width, height and bytes taken. `out` is a list of bit patterns and `store` a bytearray, both lent."""
+    source = Source(data)
+    try:
+        width, height = checked_header(source, widest, highest, len(out), len(store))
+    except Refused as refused:
+        return refused.number, 0, 0, 0, 0
+    done, number = rows(source, width, height, out, store)
+    return (number, done, 0, 0, 0) if number else (0, 0, width, height, source.place)
+
+
+# ---- lines
+
+
+def lent_samples(count):
+    return [struct.pack(">f", i % 251) for i in range(count)]
+
+
+def lent_bytes(count):
+    return bytearray(i % 251 for i in range(count))
+
+
+def answer(line):
+    """The answer to a line `readd MAXW MAXH OUTLEN STORELEN BYTES`."""
+    word, *numbers, data = line.split(" ")
+    assert word == "readd" and len(numbers) == 4, line
+    widest, highest, samples, places = map(int, numbers)
+    out, store = lent_samples(samples), lent_bytes(places)
+    words = read(b"" if data == "-" else bytes.fromhex(data), widest, highest, out, store)
+    return " ".join([*map(str, words), b"".join(out).hex() or "-", store.hex() or "-"])
