@@ -232,7 +232,7 @@ def powers():
     """k repeats directly ahead, k from 0 to 3, of each n, in rows that hold them and in rows that do not."""
     for k in range(4):
         for n in (0, 1, 2, 255):
-            for w in (3, 258, 515):
+            for w in (3, 515 if (k, n) == (1, 2) else 258):
                 yield line(w, 1, P + run(0) * k + run(n) + Q * 2)
                 yield line(w, 1, Q + P + run(0) * k + run(n) + Q)
 

@@ -1,0 +1,244 @@
+"""Cases of the document reading, answered by the replay program and by compare/reading.py: document.py SEED COUNT DIFFERENCES PROGRAM.."""
+
+import collections
+import itertools
+import random
+import subprocess
+import sys
+
+import reading
+from lines import file, hexed
+from list_document import by_hand, by_reading
+
+PART = 4000  # lines to a run of the program
+
+
+def line(data, w, h, out=0, store=0, limits=(65535, 65535)):
+    """A line for a file of w by h; `out` and `store` are how much is lent beyond what is needed, or how much less."""
+    return f"readd {limits[0]} {limits[1]} {max(0, 3 * w * h + out)} {max(0, 4 * w + store)} {hexed(data)}"
+
+
+# ---- every case of a kind
+
+
+def every_value():
+    """All pairs of mantissa and exponent byte: a pixel has three mantissas, and none starts 1,1,1 or is a mark's."""
+    for e in range(256):
+        rows = [b for m in range(0, 256, 2) for b in (m, m + 1, 255 - m, e)]
+        yield line(file(128, 1, rows), 128, 1)
+
+
+def every_flat_row():
+    """Lists of up to five pixels and repeats, a first pixel that starts with 2 among them, at narrow widths and at 8."""
+    letters = [[9, 8, 7, 129], [1, 1, 2, 129], [2, 2, 128, 9], *([1, 1, 1, n] for n in (0, 1, 2, 3, 7, 255))]
+    for count in range(6):
+        for chosen in itertools.product(letters, repeat=count):
+            if count == 5 and chosen[0] is not letters[0]:
+                continue
+            rows = sum(chosen, [])
+            for w in (1, 3, 4, 8):
+                if w == 4 or count < 4:
+                    yield line(file(w, 1, rows), w, 1)
+
+
+def every_mark():
+    """Four bytes over eight letters as a row's start, with none, a few or enough bytes behind them."""
+    behind = ([], [136, 5], [136, 5] * 3 + [136, 130], [7, 7, 7, 130] * 7)
+    for four in itertools.product((0, 1, 2, 8, 9, 127, 128, 255), repeat=4):
+        for more in behind if four[0] == 2 else behind[1:2]:
+            yield line(file(8, 1, [*four, *more]), 8, 1)
+
+
+def every_channel():
+    """Lists of up to four counts, with the bytes that they ask for or fewer, as the first channel or as the last."""
+    counts = (0, 1, 2, 7, 8, 9, 128, 129, 130, 135, 136, 137, 255)
+    for count in range(5):
+        for chosen in itertools.product(counts if count < 4 else counts[::2], repeat=count):
+            codes = [b for i, c in enumerate(chosen) for b in [c] + [60 + i] * (1 if c > 128 else min(c, 9))]
+            for rows in (codes + [136, 5] * 3, [136, 5] * 3 + codes, codes[:-1]):
+                yield line(file(8, 1, [2, 2, 0, 8] + rows), 8, 1)
+
+
+def every_beginning():
+    """Good files of each kind that lose their end at every place behind the header."""
+    chance = random.Random(1)
+    for _ in range(60):
+        w, h = chance.choice((1, 2, 5, 7, 8, 9, 12, 20)), chance.randint(1, 3)
+        rows = sum((good_row(chance, w) for _ in range(h)), [])
+        for n in range(len(rows) + 1):
+            yield line(file(w, h, rows[:n]), w, h)
+
+
+def wide_rows():
+    """Rows on both sides of 32,767, coded, by repeats, and with a repeat that passes their end."""
+    for w in (32767, 32768):
+        for more in (-1, 0, 1):
+            n = w - 1 + more
+            yield line(file(w, 1, [9, 8, 7, 129, 1, 1, 1, n % 256, 1, 1, 1, n // 256, 5, 6, 7, 130]), w, 1)
+            yield line(file(w, 1, [2, 2, w // 256, w % 256, 1, 1, 1, n % 256, 1, 1, 1, n // 256, 5, 6, 7, 130]), w, 1)
+        codes = [255, 130] * (w // 127) + [128 + w % 127, 130]
+        for named in (w - 1, w, w + 1):
+            yield line(file(w, 1, [2, 2, named // 256, named % 256] + codes * 4), w, 1)
+
+
+# ---- random ones
+
+
+def noise(chance):
+    """A pixel that is no repeat and does not start with 2."""
+    exponent = chance.choice((0, 1, 9, 96, 97, 159, 160, 255, chance.randrange(256)))
+    return [chance.choice((0, 3, 9, 128, 255, chance.randrange(3, 256))), chance.randrange(256), chance.randrange(256), exponent]
+
+
+def flat_row(chance, w):
+    """Pixels and repeats that fill the row: k grows with the repeats directly ahead, 0 among them."""
+    row = noise(chance)
+    if chance.random() < 0.2:
+        row[:3] = [2, *chance.choice(((3, 4), (0, 0), (2, 128), (2, 255), (1, 1)))]
+    done, k = 1, 0
+    while done < w:
+        left, scale = w - done, 256**k
+        kind = chance.random()
+        if kind < 0.15:
+            row, k = row + [1, 1, 1, 0], k + 1
+        elif kind < 0.5 and scale <= left:
+            n = min(255, left // scale, chance.choice((1, 2, 255, chance.randint(1, left // scale))))
+            row, done, k = row + [1, 1, 1, n], done + n * scale, k + 1
+        else:
+            row, done, k = row + noise(chance), done + 1, 0
+    return row
+
+
+def channel(chance, w):
+    """Counts that fill a channel: runs and literals of many lengths, and counts of 0."""
+    codes, left = [], w
+    while left:
+        if chance.random() < 0.1:
+            codes.append(0)
+        n = min(left, chance.choice((1, 2, 3, 126, 127, 128, left, chance.randint(1, left))))
+        if chance.random() < 0.5:
+            n = min(n, 127)
+            codes += [128 + n, chance.randrange(256)]
+        else:
+            n = min(n, 128)
+            codes += [n, *(chance.randrange(256) for _ in range(n))]
+        left -= n
+    return codes
+
+
+def good_row(chance, w):
+    if not 8 <= w <= 32767 or chance.random() < 0.4:
+        return flat_row(chance, w)
+    return [2, 2, w // 256, w % 256] + sum((channel(chance, w) for _ in range(4)), [])
+
+
+WIDTHS = (1, 2, 3, 4, 7, 8, 8, 8, 9, 12, 20, 40, 127, 128, 129, 255, 256, 257, 258, 300, 520)
+BYTES = (0, 1, 2, 3, 7, 8, 9, 127, 128, 129, 135, 136, 137, 255)
+
+
+def damaged(chance, rows):
+    """Bytes changed, lost, doubled, put in or cut off; an old run put in."""
+    at = chance.randrange(len(rows) + 1)
+    kind = chance.randrange(7)
+    if kind == 0:
+        return rows[:at]
+    if kind == 1:
+        return rows[:at] + rows[at + chance.randint(1, 4):]
+    if kind == 2:
+        return rows[:at] + [chance.choice(BYTES)] + rows[at:]
+    if kind == 3:
+        at -= at % 4
+        return rows[:at] + [1, 1, 1, chance.choice(BYTES)] + rows[at + 4 * chance.randrange(2):]
+    if kind == 4:
+        return rows[:at] + rows[max(0, at - chance.randint(1, 8)):]
+    byte = chance.choice(BYTES) if kind == 5 else chance.randrange(256)
+    return rows[:at] + [byte] + rows[at + 1:]
+
+
+def good_file(chance):
+    w = chance.choice(WIDTHS)
+    h = chance.randint(0, 1 + 40 // w)
+    rows = sum((good_row(chance, w) for _ in range(h)), [])
+    return w, h, rows
+
+
+def random_line(chance, damages):
+    """A good file with so many damages, and now and then with bytes behind, odd buffers and odd limits."""
+    w, h, rows = good_file(chance)
+    for _ in range(damages):
+        rows = damaged(chance, rows)
+    if chance.random() < 0.2:
+        rows = rows + [chance.choice(BYTES) for _ in range(chance.randint(1, 9))]
+    out, store, limits = 0, 0, (65535, 65535)
+    if chance.random() < 0.1:
+        out, store = chance.choice((-1, 0, 1, 7)), chance.choice((-1, 0, 1, 9))
+    if chance.random() < 0.05:
+        limits = chance.choice(((w, h), (w - 1, h), (w, max(0, h - 1)), (2**64 - 1, 65536)))
+    return line(file(w, h, rows), w, h, out, store, limits)
+
+
+def kinds(seed, count):
+    """The kinds of cases, each with its name and its lines."""
+    chance = random.Random(seed)
+    yield "the fixed list's", [line for line, _ in by_hand()] + list(by_reading())
+    yield "every mantissa and exponent", every_value()
+    yield "flat rows, every short list", every_flat_row()
+    yield "marks, every four bytes", every_mark()
+    yield "channel codes, every short list", every_channel()
+    yield "every beginning of good files", every_beginning()
+    yield "wide rows", wide_rows()
+    yield "good files, random", (random_line(chance, 0) for _ in range(count // 5))
+    yield "one damage, random", (random_line(chance, 1) for _ in range(count // 2))
+    yield "several damages, random", (random_line(chance, chance.randint(2, 5)) for _ in range(count - count // 5 - count // 2))
+
+
+# ---- held together
+
+
+def parts(lines):
+    lines = iter(lines)
+    while part := list(itertools.islice(lines, PART)):
+        yield part
+
+
+def answers(program, part):
+    text = "".join(line + "\n" for line in part).encode()
+    done = subprocess.run(program, input=text, stdout=subprocess.PIPE, check=True)
+    return done.stdout.decode().split("\n")[:-1]
+
+
+def held(program, lines, differences):
+    """How many lines there are, how many of each number, and how many differ."""
+    numbers, differ = collections.Counter(), 0
+    for part in parts(lines):
+        found = answers(program, part)
+        assert len(found) == len(part), "an answer is missing"
+        for asked, theirs in zip(part, found):
+            ours = reading.answer(asked)
+            numbers[ours.split(" ", 1)[0]] += 1
+            if theirs != ours:
+                differ += 1
+                differences.write(f"{asked}\n  replay: {theirs}\n  rules:  {ours}\n")
+    return sum(numbers.values()), numbers["0"], numbers["9"], numbers["14"], differ
+
+
+def main():
+    seed, count, path, *program = sys.argv[1:]
+    sums = [0] * 5
+    print("| kind of case | lines | read | 9 | 14 | other refusals | differences |")
+    print("|---|---|---|---|---|---|---|")
+
+    def show(name, numbers):
+        lines, done, nine, fourteen, differ = numbers
+        print(f"| {name} | {lines} | {done} | {nine} | {fourteen} | {lines - done - nine - fourteen} | {differ} |", flush=True)
+
+    with open(path, "w") as differences:
+        for name, lines in kinds(int(seed), int(count)):
+            numbers = held(program, lines, differences)
+            sums = [a + b for a, b in zip(sums, numbers)]
+            show(name, numbers)
+    show("all", sums)
+    sys.exit(1 if sums[-1] else 0)
+
+
+main()
