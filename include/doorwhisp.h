@@ -8,7 +8,8 @@
  * THE ANSWER. Most calls fill a struct doorwhisp_answer that the caller lends; `answer` is the last parameter.
  *
  * LENT MEMORY. A list is a pointer to its first element and the count of its elements (not of bytes). A refusal
- * changes nothing in it, but for 9, which leaves the rows before it in the output. Beyond a result nothing is changed.
+ * changes nothing in it, but for 9, 14 and 25, which leave the rows before theirs in the output. Beyond a result
+ * nothing is changed.
  *
  * THE CALLER sees to it that
  *   - each pointer is not null and is aligned for its type, also where the count is 0 (nothing is then read or
@@ -20,30 +21,40 @@
  *
  * No call keeps a pointer, has state, asks for memory, fails in another way than by its number, or never ends; any
  * thread may call at any time. doorwhisp_length and doorwhisp_write use 131,072 bytes of stack and a little more,
- * the others less than 4,096. The calls under "Reading", and doorwhisp_pixel_from_bytes, have no float divide and no
- * square root (tools/no-divide looks for them).
+ * the others less than 4,096. The calls under "Reading", and those that make samples from the bytes of one pixel, have
+ * no float divide and no square root (tools/no-divide looks for them).
  *
  * SAMPLES are three floats to a pixel, row by row from the top, red, green, blue. A four-byte pixel is three
  * mantissas and the exponent byte.
  *
- * THE READING is that of zune-hdr 0.5.2, and not always that of the Radiance documents:
+ * THE READINGS are two. doorwhisp_read_document reads by the Radiance documents:
+ *   - Light is m * 2^(E-136) at every exponent byte E from 1 to 255, which is the lower edge of its step (Radiance's
+ *     own library shows the middle), and 0 is black.
+ *   - A pixel 1, 1, 1, n in a flat row, an old run, repeats the pixel before it n * 256^k times, where k repeats stand
+ *     directly ahead of it.
+ *   - A row that is none of the document's is refusal 14: one with a mark whose width is not the header's, a repeat
+ *     with no pixel before it in its row, or a count or a repeat that passes the row's end.
+ *   - A file that is cut in a row is refused by 9 in that row, wherever the cut is.
+ * doorwhisp_read reads as zune-hdr 0.5.2 does, for programs that are to show what they showed:
  *   - Light is as the document has it at the exponent bytes 97 to 159, and 0 is black. At 1 to 96 it is shown too
  *     bright, at 160 to 255 too dark, by 2^32 or a power of it.
  *   - Of the cuts in a row, those among the bytes of the file's last count are not refused: where the last row is coded
  *     and the file ends after its last count, the exponent bytes that are missing, 128 at most, are read as 0, and
  *     those pixels are black. Every other cut in a row is refusal 9.
- *   - +X w -Y h is read row by row, as -Y h +X w is, though by the document it lies column by column.
- *   - Header lines are passed over. EXPOSURE is not applied, and FORMAT is not looked at: samples of a file that
- *     states 32-bit_rle_xyze are X, Y and Z.
- *   - A flat row with an old run (a pixel 1, 1, 1, n) is refusal 25: zune-hdr's way with them gives other pixels than
- *     the document's. Such files wait for a reading by the document.
- *   - The format has no checksum: damage that leaves enough bytes is read as some other picture.
+ *   - The mark's width is not compared with the header's, and a count that passes the row's end stops there.
+ *   - A flat row with an old run is refusal 25: zune-hdr's way with them gives other pixels than the document's.
+ * In both
+ *   - +X w -Y h is read row by row, as -Y h +X w is, though by the document it lies column by column;
+ *   - header lines are passed over. EXPOSURE is not applied, and FORMAT is not looked at: samples of a file that
+ *     states 32-bit_rle_xyze are X, Y and Z;
+ *   - the format has no checksum: damage that leaves rows of either kind is read as some other picture.
  *
  * THE WRITING. A negative sample and one that is no number are written as 0, and a pixel whose largest sample is not
  * above 1e-32 as black; 2^127 and more, plus infinity too, is refusal 12. Each sample is rounded down, by less than one
- * step of its pixel. What is written is read back so where each pixel's largest sample is 0 or from 2^-32 to below
- * 2^31; darker pixels come back too bright and brighter ones too dark. No pixel that is written from samples starts
- * 1, 1, 1. Four-byte pixels are written as they are given: see doorwhisp_write4.
+ * step of its pixel. What is written is read back so by the document, where no sample is negative or no number and each
+ * pixel's largest is 0 or above 1e-32; as zune-hdr reads, where it is 0 or from 2^-32 to below 2^31: darker pixels come
+ * back too bright there and brighter ones too dark. No pixel that is written from samples starts 1, 1, 1. Four-byte
+ * pixels are written as they are given: see doorwhisp_write4.
  */
 #ifndef DOORWHISP_H
 #define DOORWHISP_H
@@ -83,7 +94,8 @@ enum doorwhisp_refusal {
     DOORWHISP_WRONG_LENGTH = 11, /* writing: the frame has not 3 samples (4 bytes) to a pixel */
     DOORWHISP_TOO_BRIGHT = 12,   /* writing: the pixel that `place` names has a sample of 2^127 or more */
     DOORWHISP_NO_ROOM = 13,      /* writing: the file is longer than the output */
-    DOORWHISP_OLD_RUN = 25,      /* the row that `place` names is flat and has a pixel 1, 1, 1, n */
+    DOORWHISP_BROKEN_ROW = 14,   /* by the document: the row that `place` names has a wrong width, count or repeat */
+    DOORWHISP_OLD_RUN = 25,      /* as zune-hdr reads: the row that `place` names is flat and has a pixel 1, 1, 1, n */
     DOORWHISP_NONE = 255         /* the two buffer sizes alone: the number passes 2^64 - 1 */
 };
 
@@ -122,6 +134,7 @@ DOORWHISP_HERE const char *doorwhisp_words(uint64_t refusal) {
     case DOORWHISP_WRONG_LENGTH: return "the frame does not have the length that its sizes ask for";
     case DOORWHISP_TOO_BRIGHT: return "this pixel is too bright for the format";
     case DOORWHISP_NO_ROOM: return "the output is too short for the file";
+    case DOORWHISP_BROKEN_ROW: return "this row is broken, its width or a count or a repeat in it is wrong";
     case DOORWHISP_OLD_RUN: return "this row has an old run, a pixel 1, 1, 1, n, which is not read";
     case DOORWHISP_NONE: return "the number passes 2^64 - 1";
     default: return "there is no such refusal";
@@ -129,9 +142,9 @@ DOORWHISP_HERE const char *doorwhisp_words(uint64_t refusal) {
 }
 
 /*
- * How many rows of a width up to 65,535 so many bytes can hold at most; 2^64 - 1 of width 0. A picture that is higher
- * than what follows its header can hold is refused by 9 or 25 in one of these rows or the next: so no memory need be
- * had for more. That is proved of doorwhisp_read (crates/kept/specs/Least.antt). The samples of these rows are less
+ * How many rows of a width up to 65,535 so many bytes can hold at most, as doorwhisp_read reads; 2^64 - 1 of width 0. A
+ * picture that is higher than what follows its header can hold is refused by 9 or 25 in one of these rows or the next:
+ * so no memory need be had for more. That is proved (crates/kept/specs/Least.antt). The samples of these rows are less
  * than 191 times as many bytes.
  */
 DOORWHISP_HERE uint64_t doorwhisp_most_rows(uint64_t width, uint64_t bytes) {
@@ -140,24 +153,40 @@ DOORWHISP_HERE uint64_t doorwhisp_most_rows(uint64_t width, uint64_t bytes) {
     return (bytes + 1) / (4 + 8 * ((width + 125) / 127));
 }
 
-/* ---- Reading ---- */
+/*
+ * The same as doorwhisp_read_document reads, where a pixel and two repeats of it can be a row of any width; the refusal
+ * is then 9 or 14. The samples of these rows are at most 65,535 times as many bytes.
+ */
+DOORWHISP_HERE uint64_t doorwhisp_document_most_rows(uint64_t width, uint64_t bytes) {
+    if (width == 0) return (uint64_t)-1;
+    return bytes / (width == 1 ? 4 : width <= 256 ? 8 : 12);
+}
+
+/* ---- Reading: by the document, or, in the calls without that word, as zune-hdr reads ---- */
 
 /*
- * Reads the header at the start of the bytes: width, height, and how many bytes the header takes.
+ * Reads the header at the start of the bytes: width, height, and how many bytes the header takes. So far both calls do
+ * the same: call the one that belongs to the reading.
  * `widest` and `highest` are the largest width and height that the caller wants; above 65,535 they count as 65,535.
  * Refusals: 1, 2, 3, 4, 5.
  */
+void doorwhisp_read_document_header(const uint8_t *bytes, size_t bytes_length, size_t widest, size_t highest,
+                                    struct doorwhisp_answer *answer);
 void doorwhisp_read_header(const uint8_t *bytes, size_t bytes_length, size_t widest, size_t highest,
                            struct doorwhisp_answer *answer);
 
 /*
  * Reads a whole file: its samples into the start of `out`, by way of `store`, which holds one row. Answers width,
  * height, and how many bytes the file took; bytes may follow.
- * `out` needs 3 * width * height samples, `store` 4 * width bytes: ask doorwhisp_read_header first.
- * Refusals: 1, 2, 3, 4, 5, 6, 7, 8; then, in the first row at fault, 9 or 25. These two in row k leave rows 0 to k - 1
- * in `out` and the rest of it as it was lent; `store` then holds what was read of row k, the pixel 1, 1, 1, n too, over
- * row k - 1. On success its first 4 * width bytes are the last row, or 0 where there is none.
+ * `out` needs 3 * width * height samples, `store` 4 * width bytes: ask for the header first.
+ * Refusals: 1, 2, 3, 4, 5, 6, 7, 8; then, in the first row at fault, 9 or 14 (as zune-hdr reads, 9 or 25). These in
+ * row k leave rows 0 to k - 1 in `out` and the rest of it as it was lent; `store` then holds what was read of row k
+ * over row k - 1. By the document that is whole flat pixels, copies, runs and literals, and nothing of what is at fault;
+ * as zune-hdr reads, every byte as it was read, the pixel 1, 1, 1, n too. On success the first 4 * width bytes of
+ * `store` are the last row, or 0 where there is none.
  */
+void doorwhisp_read_document(const uint8_t *bytes, size_t bytes_length, size_t widest, size_t highest, float *out,
+                             size_t out_length, uint8_t *store, size_t store_length, struct doorwhisp_answer *answer);
 void doorwhisp_read(const uint8_t *bytes, size_t bytes_length, size_t widest, size_t highest, float *out,
                     size_t out_length, uint8_t *store, size_t store_length, struct doorwhisp_answer *answer);
 
@@ -189,7 +218,8 @@ void doorwhisp_worst(size_t width, size_t height, struct doorwhisp_answer *answe
  * enough, and then the length is not counted first.
  * Refusals: 7, 10, 11, 12, 13 (12 not for four-byte pixels); each leaves `out` as it was lent.
  * doorwhisp_write4 writes the pixels as they are given, those that start 1, 1, 1 too: at widths 1 to 7 and over 32,767,
- * where rows are flat, such a file is refused by 25 when it is read. At other widths the picture comes back.
+ * where rows are flat, they are repeats when the file is read, by the document, and 25 as zune-hdr reads. At other
+ * widths the picture comes back.
  */
 void doorwhisp_write(size_t width, size_t height, const float *samples, size_t samples_length, uint8_t *out,
                      size_t out_length, struct doorwhisp_answer *answer);
@@ -204,7 +234,8 @@ void doorwhisp_expected_buffer_size(size_t width, size_t height, struct doorwhis
 
 /* ---- One pixel ---- */
 
-/* The three samples of a four-byte pixel, as doorwhisp_read gives them. */
+/* The three samples of a four-byte pixel, as doorwhisp_read_document gives them, and as doorwhisp_read does. */
+void doorwhisp_document_pixel_from_bytes(uint8_t r, uint8_t g, uint8_t b, uint8_t e, float samples[3]);
 void doorwhisp_pixel_from_bytes(uint8_t r, uint8_t g, uint8_t b, uint8_t e, float samples[3]);
 
 /*

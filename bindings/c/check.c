@@ -13,12 +13,21 @@ static void hold(int so, const char *what, int at) {
     status = 1;
 }
 
-/* Reads a file of at most 8 pixels, with an answer that was used before. */
+/* Reads a file of at most 8 pixels as zune-hdr does, with an answer that was used before. */
 static doorwhisp_answer read_file(const void *file, size_t length, float samples[24]) {
     doorwhisp_answer answer;
     uint8_t store[32];
     memset(&answer, 7, sizeof answer);
     doorwhisp_read((const uint8_t *)file, length, 65535, 65535, samples, 24, store, 32, &answer);
+    return answer;
+}
+
+/* The same by the document. */
+static doorwhisp_answer read_by_document(const void *file, size_t length, float samples[24]) {
+    doorwhisp_answer answer;
+    uint8_t store[32];
+    memset(&answer, 7, sizeof answer);
+    doorwhisp_read_document((const uint8_t *)file, length, 65535, 65535, samples, 24, store, 32, &answer);
     return answer;
 }
 
@@ -29,18 +38,21 @@ static doorwhisp_answer read_text(const char *file, float samples[24]) {
 /* Each refusal has words of its own, and so has what is none. */
 static void hold_words(void) {
     int i, k;
-    for (i = 0; i <= 14; i++)
+    for (i = 0; i <= 15; i++)
         for (k = 0; k < i; k++) hold(strcmp(doorwhisp_words(i), doorwhisp_words(k)) != 0, "words of their own", i);
-    hold(strcmp(doorwhisp_words(DOORWHISP_OLD_RUN), doorwhisp_words(14)) != 0, "words for an old run", 25);
-    hold(strcmp(doorwhisp_words(DOORWHISP_NONE), doorwhisp_words(14)) != 0, "words for none", 255);
+    hold(strcmp(doorwhisp_words(DOORWHISP_OLD_RUN), doorwhisp_words(15)) != 0, "words for an old run", 25);
+    hold(strcmp(doorwhisp_words(DOORWHISP_NONE), doorwhisp_words(15)) != 0, "words for none", 255);
 }
 
-/* Light is as the document has it at the exponent bytes 97 to 159 and at 0; too bright below, too dark above. */
+/* Light is as the document has it; as zune-hdr reads, at exponent bytes 97 to 159 and 0, and too bright or dark else. */
 static void hold_exponents(void) {
     int e;
     for (e = 0; e <= 255; e++) {
         float found[3];
         double document = e == 0 ? 0.0 : ldexp(128.0, e - 136);
+        doorwhisp_document_pixel_from_bytes(128, 1, 255, (uint8_t)e, found);
+        hold(found[0] == document && found[1] == document / 128, "the document's light", e);
+        hold(found[2] == document / 128 * 255, "the document's light", e);
         doorwhisp_pixel_from_bytes(128, 0, 0, (uint8_t)e, found);
         hold((found[0] == document) == (e == 0 || (e >= 97 && e <= 159)), "exponent bytes that are the document's", e);
         hold(e > 96 || found[0] >= document, "too bright below", e);
@@ -48,7 +60,7 @@ static void hold_exponents(void) {
     }
 }
 
-/* A coded row of 8 that is cut: after its last count the exponents that are missing are black, before it 9 is answered. */
+/* A coded row of 8 that is cut: 9. As zune-hdr reads, the exponents that are missing after its last count are black. */
 static void hold_cuts(void) {
     static const char head[] = "#?RGBE\n\n-Y 1 +X 8\n";
     static const uint8_t row[] = {2, 2, 0, 8, 136, 128, 136, 128, 136, 128, 8, 129, 129, 129, 129, 129, 129, 129, 129};
@@ -59,7 +71,9 @@ static void hold_cuts(void) {
     memcpy(file + start, row, sizeof row);
     for (cut = 0; cut <= sizeof row; cut++) {
         float samples[24];
-        doorwhisp_answer answer = read_file(file, start + cut, samples);
+        doorwhisp_answer answer = read_by_document(file, start + cut, samples);
+        hold(answer.refusal == (cut < sizeof row ? DOORWHISP_BYTES_END : 0), "all cuts are refused", (int)cut);
+        answer = read_file(file, start + cut, samples);
         hold(answer.refusal == (cut < 11 ? DOORWHISP_BYTES_END : 0), "which cuts are refused", (int)cut);
         for (i = 0; cut >= 11 && i < 24; i++)
             hold(samples[i] == (i / 3 + 11 < cut ? 1.0f : 0.0f), "which pixels are black", (int)cut);
@@ -69,7 +83,15 @@ static void hold_cuts(void) {
 /* Lines of the header are passed over, both axes are rows of w, and all eight numbers are filled. */
 static void hold_header(void) {
     float plain[24], lines[24];
-    doorwhisp_answer answer = read_text("#?RGBE\n\n-Y 1 +X 2\nabc\x81" "def\x81", plain);
+    static const char text[] = "#?RGBE\n\n-Y 1 +X 2\nabc\x81" "def\x81";
+    doorwhisp_answer answer = read_by_document(text, sizeof text - 1, lines);
+    hold(answer.width == 2 && answer.height == 1 && answer.taken == 26, "the sizes and the count", 1);
+    doorwhisp_read_document_header((const uint8_t *)text, sizeof text - 1, 2, 1, &answer);
+    hold(answer.refusal == 0 && answer.width == 2 && answer.height == 1 && answer.taken == 18, "the header alone", 0);
+    doorwhisp_read_document_header((const uint8_t *)text, sizeof text - 1, 1, 1, &answer);
+    hold(answer.refusal == DOORWHISP_TOO_WIDE && answer.width == 0, "the header alone", 1);
+    answer = read_text(text, plain);
+    hold(memcmp(plain, lines, 6 * sizeof *plain) == 0, "both readings alike", 0);
     hold(answer.width == 2 && answer.height == 1 && answer.taken == 26, "the sizes and the count", 0);
     hold(answer.colour == 0 && answer.exposure == 0 && answer.orientation == 0, "0 so far", 0);
     read_text("#?RGBE\nEXPOSURE=4\nFORMAT=32-bit_rle_xyze\n\n-Y 1 +X 2\nabc\x81" "def\x81", lines);
@@ -109,6 +131,27 @@ static void hold_old_runs(void) {
     hold(answer.refusal == DOORWHISP_BYTES_END && answer.place == 1, "refusal 9 in row 1", 0);
 }
 
+/* By the document a pixel 1, 1, 1, n repeats the one before it, and a row that is none of its rows is 14. */
+static void hold_broken_rows(void) {
+    static const char repeats[] = "#?RGBE\n\n-Y 2 +X 3\n\x09\x09\x09\x88\x01\x01\x01\x02"
+                                  "\x08\x08\x08\x88\x01\x01\x01\x03";
+    static const char first[] = "#?RGBE\n\n-Y 2 +X 1\n\x09\x09\x09\x88\x01\x01\x01\x00";
+    static const char mark[] = "#?RGBE\n\n-Y 1 +X 8\n\x02\x02\x00\x09";
+    static const char count[] = "#?RGBE\n\n-Y 1 +X 8\n\x02\x02\x00\x08\x89";
+    float samples[24] = {0};
+    doorwhisp_answer answer = read_by_document(repeats, sizeof repeats - 1, samples);
+    hold(answer.refusal == DOORWHISP_BROKEN_ROW && answer.place == 1 && answer.taken == 0, "a repeat past the end", 0);
+    hold(samples[0] == 9.0f && samples[8] == 9.0f && samples[9] == 0.0f, "the row before it", 0);
+    answer = read_by_document(repeats, sizeof repeats - 2, samples);
+    hold(answer.refusal == DOORWHISP_BYTES_END && answer.place == 1, "refusal 9 in row 1", 1);
+    answer = read_by_document(first, sizeof first - 1, samples);
+    hold(answer.refusal == DOORWHISP_BROKEN_ROW && answer.place == 1, "a repeat of nothing", 0);
+    answer = read_by_document(mark, sizeof mark - 1, samples);
+    hold(answer.refusal == DOORWHISP_BROKEN_ROW && answer.place == 0, "another width in the mark", 0);
+    answer = read_by_document(count, sizeof count - 1, samples);
+    hold(answer.refusal == DOORWHISP_BROKEN_ROW && answer.place == 0, "a count past the end", 0);
+}
+
 /* How many rows so many bytes can hold, where the rule changes. */
 static void hold_most_rows(void) {
     hold(doorwhisp_most_rows(7, 83) == 2 && doorwhisp_most_rows(7, 84) == 3, "four bytes to a pixel", 7);
@@ -118,6 +161,12 @@ static void hold_most_rows(void) {
     hold(doorwhisp_most_rows(129, 18) == 0 && doorwhisp_most_rows(129, 19) == 1, "a count for 127", 129);
     hold(doorwhisp_most_rows(32767, 2066) == 0 && doorwhisp_most_rows(32767, 2067) == 1, "a count for 127", 32767);
     hold(doorwhisp_most_rows(0, 0) == (uint64_t)-1, "no width", 0);
+    hold(doorwhisp_document_most_rows(1, 7) == 1 && doorwhisp_document_most_rows(1, 8) == 2, "a pixel", 1);
+    hold(doorwhisp_document_most_rows(2, 15) == 1 && doorwhisp_document_most_rows(2, 16) == 2, "two pixels", 2);
+    hold(doorwhisp_document_most_rows(256, 7) == 0 && doorwhisp_document_most_rows(256, 8) == 1, "a repeat", 256);
+    hold(doorwhisp_document_most_rows(257, 11) == 0 && doorwhisp_document_most_rows(257, 12) == 1, "two repeats", 257);
+    hold(doorwhisp_document_most_rows(65535, 24) == 2, "two repeats", 65535);
+    hold(doorwhisp_document_most_rows(0, 0) == (uint64_t)-1, "no width", 0);
 }
 
 /* 10000 * major + 100 * minor + patch is the number of the version. */
@@ -132,6 +181,7 @@ int main(void) {
     hold_exponents();
     hold_cuts();
     hold_old_runs();
+    hold_broken_rows();
     hold_most_rows();
     hold_header();
     hold_writing();

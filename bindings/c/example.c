@@ -1,16 +1,36 @@
 /*
  * How a C program reads and writes Radiance HDR pictures with Doorwhisp.
  *
- *     example              makes a small frame, writes it, and reads it back
- *     example FILE..       says how large each picture is and how bright, or why it is refused
+ *     example                     makes a small frame, writes it, and reads it back
+ *     example [--crate] FILE..    says how large each picture is and how bright, or why it is refused
  *
- * The exit status is 0, or 1 where a file is refused or cannot be had.
+ * Pictures are read by the document, or with --crate as zune-hdr reads them. The exit status is 0, or 1 where a file is
+ * refused or cannot be had.
  */
 #include <stdio.h>
 #include <stdlib.h>
 #include <string.h>
 
 #include "doorwhisp.h"
+
+/* The calls that belong to a reading. */
+typedef struct reading {
+    void (*header)(const uint8_t *, size_t, size_t, size_t, doorwhisp_answer *);
+    void (*picture)(const uint8_t *, size_t, size_t, size_t, float *, size_t, uint8_t *, size_t, doorwhisp_answer *);
+    uint64_t (*most_rows)(uint64_t, uint64_t);
+} reading;
+
+static const reading by_document = {doorwhisp_read_document_header, doorwhisp_read_document,
+                                    doorwhisp_document_most_rows};
+static const reading by_crate = {doorwhisp_read_header, doorwhisp_read, doorwhisp_most_rows};
+
+/* A picture in memory: what it is called, its bytes, and how it is read. */
+typedef struct picture {
+    const char *name;
+    const uint8_t *bytes;
+    size_t length;
+    const reading *by;
+} picture;
 
 /* Prints a refusal, and answers 1. */
 static int refused(const char *name, const doorwhisp_answer *answer) {
@@ -32,23 +52,23 @@ static void print_range(const float *samples, size_t count) {
     printf(", samples from %g to %g", darkest, brightest);
 }
 
-/* Reads a picture that is in memory and whose header says these sizes, and says what it is. */
-static int show_rows(const char *name, const uint8_t *bytes, size_t length, size_t width, size_t height) {
+/* Reads a picture whose header says these sizes, and says what it is. */
+static int show_rows(const picture *p, size_t width, size_t height) {
     const size_t count = 3 * width * height, row = 4 * width;
     float *out = malloc(count * sizeof *out + 1);
     uint8_t *store = malloc(row + 1);
     int status = 1;
     if (out == NULL || store == NULL) {
-        printf("%s: no memory\n", name);
+        printf("%s: no memory\n", p->name);
     } else {
         doorwhisp_answer answer;
-        doorwhisp_read(bytes, length, 65535, 65535, out, count, store, row, &answer);
+        p->by->picture(p->bytes, p->length, 65535, 65535, out, count, store, row, &answer);
         status = answer.refusal != 0;
         if (status) {
-            refused(name, &answer);
+            refused(p->name, &answer);
         } else {
-            printf("%s: %lu by %lu pixels, %lu of %lu bytes taken", name, (unsigned long)width, (unsigned long)height,
-                   (unsigned long)answer.taken, (unsigned long)length);
+            printf("%s: %lu by %lu pixels, %lu of %lu bytes taken", p->name, (unsigned long)width,
+                   (unsigned long)height, (unsigned long)answer.taken, (unsigned long)p->length);
             print_range(out, count);
             printf("\n");
         }
@@ -59,31 +79,36 @@ static int show_rows(const char *name, const uint8_t *bytes, size_t length, size
 }
 
 /* Says why a picture is refused within its first rows, which its bytes cannot hold: these are read alone. */
-static int show_first(const char *name, const uint8_t *rows, size_t length, size_t width, size_t height) {
+static int show_first(const picture *p, size_t start, size_t width, size_t height) {
     char header[64];
-    const int start = sprintf(header, "#?RGBE\n\n-Y %lu +X %lu\n", (unsigned long)height, (unsigned long)width);
-    uint8_t *file = malloc((size_t)start + length);
+    const int said = sprintf(header, "#?RGBE\n\n-Y %lu +X %lu\n", (unsigned long)height, (unsigned long)width);
+    const size_t length = (size_t)said;
+    uint8_t *file = malloc(length + p->length);
+    picture first = *p;
     int status = 1;
     if (file == NULL) {
-        printf("%s: no memory\n", name);
+        printf("%s: no memory\n", p->name);
     } else {
-        memcpy(file, header, (size_t)start);
-        memcpy(file + start, rows, length);
-        status = show_rows(name, file, (size_t)start + length, width, height);
+        memcpy(file, header, length);
+        memcpy(file + length, p->bytes + start, p->length - start);
+        first.bytes = file;
+        first.length = length + p->length - start;
+        status = show_rows(&first, width, height);
     }
     free(file);
     return status;
 }
 
-/* Reads a picture that is in memory, and says what it is. Memory is asked for rows that its bytes can hold, and one. */
-static int show(const char *name, const uint8_t *bytes, size_t length) {
+/* Reads a picture, and says what it is. Memory is asked for rows that its bytes can hold, and one. */
+static int show(const char *name, const uint8_t *bytes, size_t length, const reading *by) {
+    const picture p = {name, bytes, length, by};
     doorwhisp_answer head;
     uint64_t most;
-    doorwhisp_read_header(bytes, length, 65535, 65535, &head);
+    by->header(bytes, length, 65535, 65535, &head);
     if (head.refusal != 0) return refused(name, &head);
-    most = doorwhisp_most_rows(head.width, length - head.taken);
-    if (most < head.height) return show_first(name, bytes + head.taken, length - head.taken, head.width, most + 1);
-    return show_rows(name, bytes, length, head.width, head.height);
+    most = by->most_rows(head.width, length - head.taken);
+    if (most < head.height) return show_first(&p, head.taken, head.width, most + 1);
+    return show_rows(&p, head.width, head.height);
 }
 
 /* Reads a file into memory; the caller frees it. Answers a null pointer where the file cannot be had. */
@@ -100,7 +125,7 @@ static uint8_t *load(const char *name, size_t *length) {
     return bytes;
 }
 
-/* Writes a frame of 8 by 2 pixels, and reads it back, whole and cut short. */
+/* Writes a frame of 8 by 2 pixels, and reads it back, whole and cut short; where one byte is lost, by both readings. */
 static int own_frame(void) {
     float samples[3 * 8 * 2];
     uint8_t file[143];
@@ -118,21 +143,28 @@ static int own_frame(void) {
     doorwhisp_write(8, 2, samples, 3 * 8 * 2, file, sizeof file, &answer);
     if (answer.refusal != 0) return refused("written", &answer);
     printf("this one has %lu\n", (unsigned long)answer.taken);
-    show("cut short", file, (size_t)answer.taken - 2);
-    return show("whole", file, (size_t)answer.taken);
+    show("cut short", file, (size_t)answer.taken - 2, &by_document);
+    show("one byte cut off", file, (size_t)answer.taken - 1, &by_document);
+    show("the same as zune-hdr reads it", file, (size_t)answer.taken - 1, &by_crate);
+    return show("whole", file, (size_t)answer.taken, &by_document);
 }
 
 int main(int count, char **names) {
-    int status = 0, i;
+    const reading *by = &by_document;
+    int status = 0, i = 1;
     if (count < 2) return own_frame();
-    for (i = 1; i < count; i++) {
+    if (strcmp(names[1], "--crate") == 0) {
+        by = &by_crate;
+        i = 2;
+    }
+    for (; i < count; i++) {
         size_t length = 0;
         uint8_t *bytes = load(names[i], &length);
         if (bytes == NULL) {
             printf("%s: cannot be read\n", names[i]);
             status = 1;
         } else {
-            status |= show(names[i], bytes, length);
+            status |= show(names[i], bytes, length, by);
             free(bytes);
         }
     }

@@ -9,19 +9,31 @@ use std::io::Read;
 /// The largest limit that counts.
 const LARGEST: usize = 65_535;
 
-/// The largest width and height that are read.
+/// Which picture a file is: see [the readings](crate#the-readings).
+#[derive(Clone, Copy, Debug, Default, PartialEq, Eq)]
+pub enum Reading {
+    /// The one that the crate zune-hdr 0.5.2 gives.
+    #[default]
+    Crate,
+    /// The one that the Radiance documents tell of.
+    Document,
+}
+
+/// The largest width and height that are read, and the reading.
 #[derive(Clone, Copy, Debug, PartialEq, Eq)]
 pub struct DecoderOptions {
     max_width: usize,
     max_height: usize,
+    reading: Reading,
 }
 
 impl Default for DecoderOptions {
-    /// 65,535 for both, the largest limit that counts.
+    /// 65,535 for both sizes, the largest limit that counts; and zune-hdr's reading.
     fn default() -> Self {
         DecoderOptions {
             max_width: LARGEST,
             max_height: LARGEST,
+            reading: Reading::Crate,
         }
     }
 }
@@ -37,6 +49,11 @@ impl DecoderOptions {
         self.max_height
     }
 
+    /// The reading.
+    pub fn reading(&self) -> Reading {
+        self.reading
+    }
+
     /// The same with another largest width; above 65,535 it counts as 65,535.
     pub fn set_max_width(mut self, limit: usize) -> Self {
         self.max_width = limit;
@@ -46,6 +63,24 @@ impl DecoderOptions {
     /// The same with another largest height; above 65,535 it counts as 65,535.
     pub fn set_max_height(mut self, limit: usize) -> Self {
         self.max_height = limit;
+        self
+    }
+
+    /// The same with another reading.
+    ///
+    /// ```
+    /// use doorwhisp::{DecoderOptions, HdrDecoder, HdrError, Reading};
+    ///
+    /// // a pixel, and an old run that repeats it twice
+    /// let file = b"#?RADIANCE\n\n-Y 1 +X 3\n\x80\x40\x20\x81\x01\x01\x01\x02";
+    /// let options = DecoderOptions::default().set_reading(Reading::Document);
+    /// let mut decoder = HdrDecoder::new_with_options(file, options);
+    /// assert_eq!(decoder.decode()?, [1.0, 0.5, 0.25].repeat(3));
+    /// assert_eq!(HdrDecoder::new(file).decode(), Err(HdrError::OldRun { row: 0 }));
+    /// # Ok::<(), doorwhisp::HdrError>(())
+    /// ```
+    pub fn set_reading(mut self, reading: Reading) -> Self {
+        self.reading = reading;
         self
     }
 }
@@ -83,7 +118,7 @@ impl HdrDecoder<'static> {
         Self::from_reader_with_options(reader, DecoderOptions::default())
     }
 
-    /// The same with limits.
+    /// The same with options.
     pub fn from_reader_with_options<R: Read>(
         mut reader: R,
         options: DecoderOptions,
@@ -104,7 +139,7 @@ impl<'a> HdrDecoder<'a> {
         Self::new_with_options(bytes, DecoderOptions::default())
     }
 
-    /// A decoder of the bytes, with limits.
+    /// A decoder of the bytes, with options.
     pub fn new_with_options<B: AsRef<[u8]> + ?Sized>(
         bytes: &'a B,
         options: DecoderOptions,
@@ -130,8 +165,9 @@ impl<'a> HdrDecoder<'a> {
         let DecoderOptions {
             max_width,
             max_height,
+            reading,
         } = self.options;
-        face::read_header(&self.bytes, max_width, max_height).map_err(
+        face::read_header(reading, &self.bytes, max_width, max_height).map_err(
             |Refusal { number, .. }| match number {
                 1 => HdrError::FirstLine,
                 2 => HdrError::Axes,
@@ -174,10 +210,14 @@ impl<'a> HdrDecoder<'a> {
     /// hold all its rows, it is asked for those that it may hold and one more, in which it is refused at the latest: so
     /// it is never more than 191 times the file's length, and a row. A file of 136 MB can hold 32,767 by 65,535
     /// pixels, 26 GB of samples: set limits for files that are not your own.
+    ///
+    /// By [`Reading::Document`] a pixel and two repeats, 12 bytes, can be a row of 65,535. Then it is never more than
+    /// 65,535 times the file's length, and a row; and a file of 786 KB can hold 65,535 by 65,535 pixels, 52 GB.
     pub fn decode(&mut self) -> Result<Vec<f32>, HdrError> {
         self.decode_headers()?;
         let head = self.read_header()?;
-        let most = most_rows(head.width, self.bytes.len() - head.taken);
+        let left = self.bytes.len() - head.taken;
+        let most = most_rows(self.options.reading, head.width, left);
         if most < head.height {
             return Err(self.refusal_within(head, most + 1));
         }
@@ -191,8 +231,9 @@ impl<'a> HdrDecoder<'a> {
     fn refusal_within(&self, head: Head, rows: usize) -> HdrError {
         let mut file = format!("#?RGBE\n\n-Y {rows} +X {}\n", head.width).into_bytes();
         file.extend_from_slice(&self.bytes[head.taken..]);
+        let mut decoder = HdrDecoder::new_with_options(&file, self.options);
         let read = zeros(3 * head.width * rows)
-            .and_then(|mut samples: Vec<f32>| HdrDecoder::new(&file).decode_into(&mut samples));
+            .and_then(|mut samples: Vec<f32>| decoder.decode_into(&mut samples));
         read.expect_err("fewer bytes than rows take at least hold no picture")
     }
 
@@ -209,8 +250,9 @@ impl<'a> HdrDecoder<'a> {
         let DecoderOptions {
             max_width,
             max_height,
+            reading,
         } = self.options;
-        let read = face::read(&self.bytes, max_width, max_height, buffer, store);
+        let read = face::read(reading, &self.bytes, max_width, max_height, buffer, store);
         read.map(|head| head.taken)
             .map_err(|Refusal { number, place }| match number {
                 6 => HdrError::ShortOutput {
@@ -223,6 +265,7 @@ impl<'a> HdrDecoder<'a> {
                     wanted: 4 * width,
                 },
                 9 => HdrError::BytesEnd { row: place },
+                14 => HdrError::BrokenRow { row: place },
                 25 => HdrError::OldRun { row: place },
                 _ => unreachable!("a file with a sound header is not refused by {number}"),
             })
@@ -230,10 +273,13 @@ impl<'a> HdrDecoder<'a> {
 }
 
 /// How many rows of a width so many bytes may hold, as proved of the reader (`crates/kept/specs/Least.antt`).
-fn most_rows(width: usize, bytes: usize) -> usize {
-    match width {
-        0 => usize::MAX,
-        8..=32_767 => (bytes + 1) / (4 + 8 * ((width + 125) / 127)),
-        _ => bytes / (4 * width),
+fn most_rows(reading: Reading, width: usize, bytes: usize) -> usize {
+    match (reading, width) {
+        (_, 0) => usize::MAX,
+        (Reading::Crate, 8..=32_767) => (bytes + 1) / (4 + 8 * ((width + 125) / 127)),
+        (Reading::Crate, _) => bytes / (4 * width),
+        (Reading::Document, 1) => bytes / 4,
+        (Reading::Document, 2..=256) => bytes / 8,
+        (Reading::Document, _) => bytes / 12,
     }
 }

@@ -63,8 +63,8 @@ impl<'a> HdrEncoder<'a> {
     }
 
     /// An encoder of pixels that are four bytes already: three mantissas and the exponent byte. They are written as they
-    /// are given, those that start 1, 1, 1 too: at widths 1 to 7 and over 32,767, where rows are flat, such a file is
-    /// [`OldRun`](HdrError::OldRun) when it is read.
+    /// are given, those that start 1, 1, 1 too: at widths 1 to 7 and over 32,767, where rows are flat, they are repeats
+    /// when the file is read, and [`OldRun`](HdrError::OldRun) as zune-hdr reads.
     pub fn new_from_rgbe(pixels: &'a [u8], options: EncoderOptions) -> Self {
         HdrEncoder {
             frame: Frame::Pixels(pixels),

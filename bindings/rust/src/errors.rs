@@ -5,8 +5,8 @@ use std::{error, fmt, io};
 /// Why a call failed: by a refusal, which has a number, or for want of memory, or at a reader or writer
 /// that was lent. Where the call knows what it found and what it wanted, both are told.
 ///
-/// A failure changes none of the memory that was lent, but for [`BytesEnd`](Self::BytesEnd) and
-/// [`OldRun`](Self::OldRun).
+/// A failure changes none of the memory that was lent, but for [`BytesEnd`](Self::BytesEnd),
+/// [`BrokenRow`](Self::BrokenRow) and [`OldRun`](Self::OldRun).
 #[derive(Clone, Debug, PartialEq, Eq)]
 #[non_exhaustive]
 pub enum HdrError {
@@ -36,7 +36,11 @@ pub enum HdrError {
     TooBright { pixel: usize },
     /// 13: the file is longer than the output.
     NoRoom { found: usize, wanted: usize },
-    /// 25: the row is flat and has an old run, a pixel 1, 1, 1, n. Memory is as after [`BytesEnd`](Self::BytesEnd).
+    /// 14, by the document: the row has a mark with another width than the header's, a repeat with no pixel before it,
+    /// or a count or a repeat that passes its end. Memory is as after [`BytesEnd`](Self::BytesEnd).
+    BrokenRow { row: usize },
+    /// 25, as the crate zune-hdr reads: the row is flat and has an old run, a pixel 1, 1, 1, n. Memory is as after
+    /// [`BytesEnd`](Self::BytesEnd).
     OldRun { row: usize },
     /// Memory for so many bytes cannot be had.
     NoMemory { wanted: usize },
@@ -45,7 +49,7 @@ pub enum HdrError {
 }
 
 impl HdrError {
-    /// The number of the refusal, 1 to 13 or 25, if it is one.
+    /// The number of the refusal, 1 to 14 or 25, if it is one.
     pub fn number(&self) -> Option<u8> {
         Some(match self {
             Self::FirstLine => 1,
@@ -61,6 +65,7 @@ impl HdrError {
             Self::WrongLength { .. } => 11,
             Self::TooBright { .. } => 12,
             Self::NoRoom { .. } => 13,
+            Self::BrokenRow { .. } => 14,
             Self::OldRun { .. } => 25,
             Self::NoMemory { .. } | Self::Io { .. } => return None,
         })
@@ -69,7 +74,7 @@ impl HdrError {
     /// The row or the pixel that is named, from 0, if one is.
     pub fn place(&self) -> Option<usize> {
         match *self {
-            Self::BytesEnd { row } | Self::OldRun { row } => Some(row),
+            Self::BytesEnd { row } | Self::BrokenRow { row } | Self::OldRun { row } => Some(row),
             Self::TooBright { pixel } => Some(pixel),
             _ => None,
         }
@@ -111,6 +116,10 @@ impl fmt::Display for HdrError {
             Self::NoRoom { found, wanted } => {
                 write!(f, "the file has {wanted} bytes, the output {found}")
             }
+            Self::BrokenRow { row } => write!(
+                f,
+                "row {row} is broken, its width or a count or a repeat in it is wrong"
+            ),
             Self::OldRun { row } => write!(
                 f,
                 "row {row} has an old run, a pixel 1, 1, 1, n, which is not read"

@@ -1,6 +1,6 @@
 //! The calls as they are linked (`include/doorwhisp.h`), each behind a safe function.
 
-use crate::HdrError;
+use crate::{HdrError, Reading};
 use std::mem::size_of;
 
 /// What a call answers, as it fills it: the refusal's number or 0, its place or 0, and six values. A call that answers
@@ -24,7 +24,14 @@ const _: () = assert!(size_of::<Answer>() == 64);
 #[rustfmt::skip]
 extern "C" {
     fn doorwhisp_read_header(bytes: *const u8, bytes_length: usize, widest: usize, highest: usize, answer: &mut Answer);
+    fn doorwhisp_read_document_header(
+        bytes: *const u8, bytes_length: usize, widest: usize, highest: usize, answer: &mut Answer,
+    );
     fn doorwhisp_read(
+        bytes: *const u8, bytes_length: usize, widest: usize, highest: usize,
+        out: *mut f32, out_length: usize, store: *mut u8, store_length: usize, answer: &mut Answer,
+    );
+    fn doorwhisp_read_document(
         bytes: *const u8, bytes_length: usize, widest: usize, highest: usize,
         out: *mut f32, out_length: usize, store: *mut u8, store_length: usize, answer: &mut Answer,
     );
@@ -42,6 +49,7 @@ extern "C" {
     );
     fn doorwhisp_expected_buffer_size(width: usize, height: usize, answer: &mut Answer);
     fn doorwhisp_pixel_from_bytes(r: u8, g: u8, b: u8, e: u8, samples: &mut [f32; 3]);
+    fn doorwhisp_document_pixel_from_bytes(r: u8, g: u8, b: u8, e: u8, samples: &mut [f32; 3]);
     fn doorwhisp_pixel_to_bytes(r: f32, g: f32, b: f32, bytes: &mut [u8; 4]) -> u8;
 }
 
@@ -91,16 +99,25 @@ fn amount(call: impl FnOnce(&mut Answer)) -> Option<usize> {
 
 // Each slice below is handed over as its pointer, which is never null, and its length; the call keeps neither.
 
-pub fn read_header(bytes: &[u8], widest: usize, highest: usize) -> Result<Head, Refusal> {
-    head(|answer| unsafe {
-        doorwhisp_read_header(bytes.as_ptr(), bytes.len(), widest, highest, answer)
-    })
+#[rustfmt::skip]
+pub fn read_header(reading: Reading, bytes: &[u8], widest: usize, highest: usize) -> Result<Head, Refusal> {
+    let call = match reading {
+        Reading::Crate => doorwhisp_read_header,
+        Reading::Document => doorwhisp_read_document_header,
+    };
+    head(|answer| unsafe { call(bytes.as_ptr(), bytes.len(), widest, highest, answer) })
 }
 
 #[rustfmt::skip]
-pub fn read(bytes: &[u8], widest: usize, highest: usize, out: &mut [f32], store: &mut [u8]) -> Result<Head, Refusal> {
+pub fn read(
+    reading: Reading, bytes: &[u8], widest: usize, highest: usize, out: &mut [f32], store: &mut [u8],
+) -> Result<Head, Refusal> {
+    let call = match reading {
+        Reading::Crate => doorwhisp_read,
+        Reading::Document => doorwhisp_read_document,
+    };
     head(|answer| unsafe {
-        doorwhisp_read(
+        call(
             bytes.as_ptr(), bytes.len(), widest, highest,
             out.as_mut_ptr(), out.len(), store.as_mut_ptr(), store.len(), answer,
         )
@@ -151,10 +168,17 @@ pub fn expected_buffer_size(width: usize, height: usize) -> Option<usize> {
     amount(|answer| unsafe { doorwhisp_expected_buffer_size(width, height, answer) })
 }
 
-/// The three samples of a four-byte pixel: three mantissas and the exponent byte.
+/// The three samples of a four-byte pixel, three mantissas and the exponent byte, by [`Reading::Crate`].
 pub fn pixel_from_bytes([r, g, b, e]: [u8; 4]) -> [f32; 3] {
     let mut samples = [0.0; 3];
     unsafe { doorwhisp_pixel_from_bytes(r, g, b, e, &mut samples) };
+    samples
+}
+
+/// The three samples of a four-byte pixel by [`Reading::Document`].
+pub fn document_pixel_from_bytes([r, g, b, e]: [u8; 4]) -> [f32; 3] {
+    let mut samples = [0.0; 3];
+    unsafe { doorwhisp_document_pixel_from_bytes(r, g, b, e, &mut samples) };
     samples
 }
 

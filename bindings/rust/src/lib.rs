@@ -8,29 +8,43 @@
 //! - What the archive does to decode has no float divide and no square root.
 //! - What fails is an [`HdrError`], with the number of the refusal and, where there is one, its row or pixel.
 //!
-//! # What is read
+//! # The readings
 //!
-//! The reading is that of zune-hdr 0.5.2, and not always that of the Radiance documents:
+//! There are two, and [`DecoderOptions::set_reading`] chooses. [`Reading::Document`] reads by the Radiance documents:
+//!
+//! - Light is m * 2^(E-136) at every exponent byte E from 1 to 255, which is the lower edge of its step (Radiance's own
+//!   library shows the middle), and 0 is black.
+//! - A pixel 1, 1, 1, n in a flat row, an old run, repeats the pixel before it n * 256^k times, where k repeats stand
+//!   directly ahead of it.
+//! - A row that is none of the document's is refusal 14: one with a mark whose width is not the header's, a repeat with
+//!   no pixel before it in its row, or a count or a repeat that passes the row's end.
+//! - A file that is cut in a row is refused by 9 in that row, wherever the cut is.
+//!
+//! [`Reading::Crate`], which is used where none is chosen, reads as zune-hdr 0.5.2 does:
 //!
 //! - Light is as the document has it at the exponent bytes 97 to 159, and 0 is black. At 1 to 96 it is shown too bright,
 //!   at 160 to 255 too dark, by 2^32 or a power of it.
 //! - Of the cuts in a row, those among the bytes of the file's last count are not refused: where the last row is coded
 //!   and the file ends after its last count, the exponent bytes that are missing, 128 at most, are read as 0, and those
 //!   pixels are black. Every other cut in a row is refusal 9.
-//! - `+X w -Y h` is read row by row, as `-Y h +X w` is, though by the document it lies column by column.
-//! - Header lines are passed over. `EXPOSURE` is not applied, and `FORMAT` is not looked at: samples of a file that
-//!   states `32-bit_rle_xyze` are X, Y and Z.
-//! - A flat row with an old run (a pixel 1, 1, 1, n) is refusal 25: zune-hdr's way with them gives other pixels than
-//!   the document's. Such files wait for a reading by the document.
-//! - The format has no checksum: damage that leaves enough bytes is read as some other picture.
+//! - The mark's width is not compared with the header's, and a count that passes the row's end stops there.
+//! - A flat row with an old run is refusal 25: zune-hdr's way with them gives other pixels than the document's.
+//!
+//! In both
+//!
+//! - `+X w -Y h` is read row by row, as `-Y h +X w` is, though by the document it lies column by column;
+//! - header lines are passed over. `EXPOSURE` is not applied, and `FORMAT` is not looked at: samples of a file that
+//!   states `32-bit_rle_xyze` are X, Y and Z;
+//! - the format has no checksum: damage that leaves rows of either kind is read as some other picture.
 //!
 //! # What is written
 //!
 //! A negative sample and one that is no number are written as 0, and a pixel whose largest sample is not above 1e-32 as
 //! black; 2^127 and more, plus infinity too, is refusal 12. Each sample is rounded down, by less than one step of its
-//! pixel. What is written is read back so where each pixel's largest sample is 0 or from 2^-32 to below 2^31; darker
-//! pixels come back too bright and brighter ones too dark. No pixel that is written from samples starts 1, 1, 1;
-//! four-byte pixels are written as they are given ([`HdrEncoder::new_from_rgbe`]).
+//! pixel. What is written is read back so by the document, where no sample is negative or no number and each pixel's
+//! largest is 0 or above 1e-32; by [`Reading::Crate`], where it is 0 or from 2^-32 to below 2^31: darker pixels come back
+//! too bright there and brighter ones too dark. No pixel that is written from samples starts 1, 1, 1; four-byte pixels
+//! are written as they are given ([`HdrEncoder::new_from_rgbe`]).
 
 mod decoder;
 mod encoder;
@@ -38,7 +52,7 @@ mod errors;
 mod face;
 mod memory;
 
-pub use decoder::{DecoderOptions, HdrDecoder};
+pub use decoder::{DecoderOptions, HdrDecoder, Reading};
 pub use encoder::{EncoderOptions, HdrEncoder};
 pub use errors::HdrError;
-pub use face::{pixel_from_bytes, pixel_to_bytes};
+pub use face::{document_pixel_from_bytes, pixel_from_bytes, pixel_to_bytes};

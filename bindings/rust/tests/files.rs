@@ -1,8 +1,8 @@
 //! Real bytes through the linked calls. What is expected was worked out by hand from docs/RULES.md.
 
 use doorwhisp::{
-    pixel_from_bytes, pixel_to_bytes, DecoderOptions, EncoderOptions, HdrDecoder, HdrEncoder,
-    HdrError,
+    document_pixel_from_bytes, pixel_from_bytes, pixel_to_bytes, DecoderOptions, EncoderOptions,
+    HdrDecoder, HdrEncoder, HdrError, Reading,
 };
 
 /// A coded row of eight pixels, then a flat one; two bytes more follow the file.
@@ -37,6 +37,100 @@ const TOO_BRIGHT: f32 = 170141183460469231731687303715884105728.0;
 /// The refusal of a file that is read with room for everything.
 fn refusal(file: &str) -> HdrError {
     HdrDecoder::new(file).decode().unwrap_err()
+}
+
+/// A decoder that reads by the document.
+fn by_document<B: AsRef<[u8]> + ?Sized>(file: &B) -> HdrDecoder<'_> {
+    let options = DecoderOptions::default().set_reading(Reading::Document);
+    HdrDecoder::new_with_options(file, options)
+}
+
+#[test]
+fn the_reading_is_zune_hdrs_unless_it_is_chosen() {
+    let options = DecoderOptions::default();
+    assert_eq!(options.reading(), Reading::Crate);
+    let chosen = options.set_reading(Reading::Document).set_max_width(9);
+    assert_eq!(chosen.reading(), Reading::Document);
+}
+
+#[test]
+fn coded_and_flat_rows_are_the_same_by_the_document() {
+    let mut out = [7.0; 50];
+    let mut decoder = by_document(TWO_ROWS);
+    assert_eq!(decoder.decode().unwrap(), TWO_ROWS_SAMPLES);
+    assert_eq!(decoder.dimensions(), Some((8, 2)));
+    assert_eq!(decoder.header_size(), Some(18));
+    assert_eq!(decoder.decode_into(&mut out), Ok(76));
+    assert_eq!(out[48..], [7.0, 7.0]);
+}
+
+#[test]
+fn old_runs_repeat_the_pixel_before_them_by_the_document() {
+    let row = |rows: &[u8], width: usize| {
+        let file = [format!("#?RGBE\n\n-Y 1 +X {width}\n").as_bytes(), rows].concat();
+        let samples = by_document(&file).decode().unwrap();
+        samples.chunks(3).map(|pixel| pixel[0]).collect::<Vec<_>>()
+    };
+    let (a, b) = ([7, 0, 0, 136], [8, 0, 0, 136]);
+    let run = |n: u8| [1, 1, 1, n];
+    assert_eq!(row(&[a, run(2), b].concat(), 4), [7.0, 7.0, 7.0, 8.0]);
+    assert_eq!(row(&[a, run(0), b, run(1)].concat(), 3), [7.0, 8.0, 8.0]);
+    // 3 and then 1 * 256
+    let long = [vec![7.0; 260], vec![8.0]].concat();
+    assert_eq!(row(&[a, run(3), run(1), b].concat(), 261), long);
+    // a first pixel that starts with 2 is repeated too
+    let two = [2, 3, 4, 136];
+    assert_eq!(row(&[two, run(7)].concat(), 8), [2.0; 8]);
+}
+
+#[test]
+fn a_broken_row_is_told_by_the_document() {
+    let broken = |row: &[u8]| {
+        let file = [&TWO_ROWS[..44], row].concat();
+        let mut out = [7.0; 48];
+        let answer = by_document(&file).decode_into(&mut out);
+        assert_eq!(out[..24], TWO_ROWS_SAMPLES[..24]);
+        assert_eq!(out[24..], [7.0; 24]);
+        answer.unwrap_err()
+    };
+    let wrong = HdrError::BrokenRow { row: 1 };
+    // another width in the mark; a count over the end; a repeat of nothing, and one over the end
+    assert_eq!(broken(&[2, 2, 0, 9]), wrong);
+    assert_eq!(broken(&[2, 2, 0, 8, 137]), wrong);
+    assert_eq!(broken(&[1, 1, 1, 0]), wrong);
+    assert_eq!(broken(&[9, 9, 9, 129, 1, 1, 1, 8]), wrong);
+    // and before that bytes are missing
+    assert_eq!(broken(&[2, 2, 0]), HdrError::BytesEnd { row: 1 });
+    assert_eq!(broken(&[1, 1, 1]), HdrError::BytesEnd { row: 1 });
+}
+
+#[test]
+fn every_cut_is_refused_by_the_document() {
+    let coded = [&TWO_ROWS[..44], &TWO_ROWS[18..44]].concat();
+    assert_eq!(by_document(&coded).decode().map(|s| s.len()), Ok(48));
+    for length in 18..70 {
+        let row = usize::from(length >= 44);
+        let answer = by_document(&coded[..length]).decode();
+        assert_eq!(answer, Err(HdrError::BytesEnd { row }));
+    }
+    // zune-hdr reads the last of them, and its last pixel is black
+    let samples = HdrDecoder::new(&coded[..69]).decode().unwrap();
+    assert_eq!(samples[45..], [0.0; 3]);
+}
+
+#[test]
+fn light_is_the_documents_at_every_exponent_byte() {
+    for e in 0..=255 {
+        let scale = if e == 0 {
+            0.0
+        } else {
+            2f64.powi(i32::from(e) - 136)
+        };
+        let light = document_pixel_from_bytes([128, 1, 255, e]).map(f64::from);
+        assert_eq!(light, [128.0 * scale, scale, 255.0 * scale]);
+        let shown = pixel_from_bytes([128, 1, 255, e]).map(f64::from);
+        assert_eq!(shown == light, e == 0 || (97..=159).contains(&e));
+    }
 }
 
 #[test]
@@ -274,6 +368,8 @@ fn four_byte_pixels_that_start_1_1_1_are_written_as_they_are_given() {
     assert!(file.ends_with(b"+X 1\n\x01\x01\x01\x88"));
     let told = HdrDecoder::new(&file).decode();
     assert_eq!(told, Err(HdrError::OldRun { row: 0 }));
+    let told = by_document(&file).decode();
+    assert_eq!(told, Err(HdrError::BrokenRow { row: 0 }));
     let pixels = [1, 1, 1, 136].repeat(8);
     let coded = HdrEncoder::new_from_rgbe(&pixels, EncoderOptions::new(8, 1));
     let file = coded.encode_to_vec().unwrap();
@@ -323,10 +419,12 @@ fn refusals_have_numbers_places_and_words() {
         HdrError::WrongLength { found, wanted },
         HdrError::TooBright { pixel: 4 },
         HdrError::NoRoom { found, wanted },
+        HdrError::BrokenRow { row: 5 },
     ];
     for (i, error) in in_order.iter().enumerate() {
         assert_eq!(error.number().map(usize::from), Some(i + 1));
-        let place = [(9, 3), (12, 4)].iter().find(|pair| pair.0 == i + 1);
+        let places = [(9, 3), (12, 4), (14, 5)];
+        let place = places.iter().find(|pair| pair.0 == i + 1);
         assert_eq!(error.place(), place.map(|pair| pair.1));
         let start = format!("refusal {}: ", i + 1);
         assert!(error.to_string().starts_with(&start));

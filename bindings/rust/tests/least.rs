@@ -1,11 +1,16 @@
 //! How few bytes hold a picture's rows: the shortest are read, and a file with fewer is refused as by `decode_into`.
 
-use doorwhisp::{HdrDecoder, HdrError};
+use doorwhisp::{DecoderOptions, HdrDecoder, HdrError, Reading};
 
-/// Widths where the rule changes, and beside them.
-const WIDTHS: [usize; 18] = [
-    1, 2, 3, 7, 8, 9, 126, 127, 128, 129, 254, 255, 256, 300, 32_766, 32_767, 32_768, 65_535,
+/// Widths where a rule changes, and beside them.
+const WIDTHS: [usize; 19] = [
+    1, 2, 3, 7, 8, 9, 126, 127, 128, 129, 254, 255, 256, 257, 300, 32_766, 32_767, 32_768, 65_535,
 ];
+
+/// A decoder by a reading.
+fn decoder(reading: Reading, file: &[u8]) -> HdrDecoder<'_> {
+    HdrDecoder::new_with_options(file, DecoderOptions::default().set_reading(reading))
+}
 
 /// The header of a picture.
 fn header(width: usize, height: usize) -> Vec<u8> {
@@ -27,11 +32,27 @@ fn shortest_rows(width: usize, height: usize) -> Vec<u8> {
     rows
 }
 
+/// The shortest rows by the document: a pixel, and repeats of 255 and of 255 times 256 at most.
+fn repeats(width: usize, height: usize) -> Vec<u8> {
+    let left = width - 1;
+    let mut row = vec![9, 9, 9, 129];
+    if left > 0 {
+        row.extend([1, 1, 1, (left % 256) as u8]);
+    }
+    if left > 255 {
+        row.extend([1, 1, 1, (left / 256) as u8]);
+    }
+    row.repeat(height)
+}
+
 /// How many bytes are wanted.
-fn least(width: usize, height: usize) -> usize {
-    match width {
-        8..=32_767 => height * (4 + 8 * ((width - 2) / 127 + 1)) - 1,
-        _ => 4 * width * height,
+fn least(reading: Reading, width: usize, height: usize) -> usize {
+    match (reading, width) {
+        (Reading::Crate, 8..=32_767) => height * (4 + 8 * ((width - 2) / 127 + 1)) - 1,
+        (Reading::Crate, _) => 4 * width * height,
+        (Reading::Document, 1) => 4 * height,
+        (Reading::Document, 2..=256) => 8 * height,
+        (Reading::Document, _) => 12 * height,
     }
 }
 
@@ -67,7 +88,8 @@ fn the_shortest_rows_are_read() {
             let rows = shortest_rows(width, height);
             let few = (8..=32_767).contains(&width) && width % 127 == 1;
             let given_away = if few { 8 * height - 2 } else { 0 };
-            assert_eq!(rows.len(), least(width, height) + given_away);
+            let least = least(Reading::Crate, width, height);
+            assert_eq!(rows.len(), least + given_away);
             let file = [header(width, height), rows].concat();
             let samples = HdrDecoder::new(&file).decode().unwrap();
             assert_eq!(samples.len(), 3 * width * height);
@@ -76,30 +98,56 @@ fn the_shortest_rows_are_read() {
 }
 
 #[test]
-fn fewer_bytes_are_refused_as_where_memory_is_lent() {
+fn the_shortest_rows_are_read_by_the_document() {
+    for width in WIDTHS {
+        for height in 1..4 {
+            let rows = repeats(width, height);
+            assert_eq!(rows.len(), least(Reading::Document, width, height));
+            let file = [header(width, height), rows].concat();
+            let samples = decoder(Reading::Document, &file).decode().unwrap();
+            let pixel = [9.0 / 128.0; 3];
+            assert_eq!(samples, pixel.repeat(width * height));
+        }
+    }
+}
+
+/// Holds `decode` to `decode_into` on files with fewer bytes than their rows take; how many are 9, and how many not.
+fn refused_alike(reading: Reading) -> [usize; 2] {
     let mut bytes = Bytes(1);
     let mut numbers = [0; 2];
     for width in WIDTHS {
         for height in 1..4 {
             let mut out = vec![0.0; 3 * width * height];
             for i in 0..40_000 / width.max(100) {
-                let least = least(width, height);
+                let least = least(reading, width, height);
                 let found = if i == 0 { least - 1 } else { bytes.next(least) };
                 let file = [header(width, height), bytes.of_length(found)].concat();
-                let mut decoder = HdrDecoder::new(&file);
+                let mut decoder = decoder(reading, &file);
                 let refusal = decoder.decode_into(&mut out).unwrap_err();
-                numbers[usize::from(matches!(refusal, HdrError::OldRun { .. }))] += 1;
-                assert!(matches!(refusal.number(), Some(9 | 25)));
+                let ends = matches!(refusal, HdrError::BytesEnd { .. });
+                let other = if reading == Reading::Crate { 25 } else { 14 };
+                assert!(ends || refusal.number() == Some(other));
+                numbers[usize::from(!ends)] += 1;
                 assert_eq!(decoder.decode(), Err(refusal));
             }
         }
     }
-    assert!(numbers.iter().all(|n| *n > 100), "{numbers:?} of 9 and 25");
+    numbers
+}
+
+#[test]
+fn fewer_bytes_are_refused_as_where_memory_is_lent() {
+    for reading in [Reading::Crate, Reading::Document] {
+        let numbers = refused_alike(reading);
+        assert!(numbers.iter().all(|n| *n > 100), "{numbers:?} {reading:?}");
+    }
 }
 
 #[test]
 fn no_rows_take_no_bytes() {
-    let decoded = |file: &[u8]| HdrDecoder::new(file).decode();
-    assert_eq!(decoded(&header(20, 0)), Ok(vec![]));
-    assert_eq!(decoded(&header(0, 3)), Err(HdrError::NoWidth));
+    for reading in [Reading::Crate, Reading::Document] {
+        let decoded = |file: &[u8]| decoder(reading, file).decode();
+        assert_eq!(decoded(&header(20, 0)), Ok(vec![]));
+        assert_eq!(decoded(&header(0, 3)), Err(HdrError::NoWidth));
+    }
 }

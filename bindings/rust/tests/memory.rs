@@ -1,6 +1,7 @@
-//! How much memory a few bytes that say an immense picture make `decode` ask for: a row, and 191 times their number.
+//! How much memory a few bytes that say an immense picture make `decode` ask for: a row, and 191 times their number; by
+//! the document, 65,535 times.
 
-use doorwhisp::{HdrDecoder, HdrError};
+use doorwhisp::{DecoderOptions, HdrDecoder, HdrError, Reading};
 use std::alloc::{GlobalAlloc, Layout, System};
 use std::sync::atomic::{AtomicUsize, Ordering};
 
@@ -24,34 +25,46 @@ unsafe impl GlobalAlloc for Watched {
 static WATCHED: Watched = Watched;
 
 /// What `decode` says of a picture of 65,535 rows, and the most bytes that it asks for at once.
-fn told(width: usize, rows: &[u8]) -> (HdrError, usize) {
+fn told(reading: Reading, width: usize, rows: &[u8]) -> (HdrError, usize) {
     let header = format!("#?RGBE\n\n-Y 65535 +X {width}\n");
     let file = [header.as_bytes(), rows].concat();
+    let options = DecoderOptions::default().set_reading(reading);
     MOST.store(0, Ordering::Relaxed);
-    let refusal = HdrDecoder::new(&file).decode().unwrap_err();
+    let mut decoder = HdrDecoder::new_with_options(&file, options);
+    let refusal = decoder.decode().unwrap_err();
     (refusal, MOST.load(Ordering::Relaxed))
 }
 
 #[test]
 fn a_few_bytes_that_say_an_immense_picture_ask_for_little_memory() {
+    use Reading::{Crate, Document};
     let pixel = [9, 9, 9, 129];
     let coded = [&[2, 2, 127, 255][..], &[255, 7].repeat(259 * 4)].concat();
+    let repeats = [9, 9, 9, 129, 1, 1, 1, 254, 1, 1, 1, 255];
+    let three = pixel.repeat(3 * 65_535);
+    let end = |row| HdrError::BytesEnd { row };
     let cases = [
-        (65_535, vec![9; 5], HdrError::BytesEnd { row: 0 }),
-        (65_535, vec![1, 1, 1, 5], HdrError::OldRun { row: 0 }),
-        (
-            65_535,
-            pixel.repeat(3 * 65_535),
-            HdrError::BytesEnd { row: 3 },
-        ),
-        (32_767, coded.repeat(2), HdrError::BytesEnd { row: 2 }),
-        (1, pixel.repeat(70), HdrError::BytesEnd { row: 70 }),
+        (Crate, 65_535, vec![9; 5], end(0)),
+        (Crate, 65_535, vec![1, 1, 1, 5], HdrError::OldRun { row: 0 }),
+        (Crate, 65_535, three.clone(), end(3)),
+        (Crate, 32_767, coded.repeat(2), end(2)),
+        (Crate, 1, pixel.repeat(70), end(70)),
+        (Document, 65_535, vec![9; 5], end(0)),
+        (Document, 65_535, vec![1; 4], HdrError::BrokenRow { row: 0 }),
+        (Document, 65_535, repeats.repeat(2), end(2)),
+        (Document, 256, pixel.repeat(300), end(1)),
+        (Document, 1, pixel.repeat(70), end(70)),
     ];
-    for (width, rows, refusal) in cases {
-        let (found, most) = told(width, &rows);
+    for (reading, width, rows, refusal) in cases {
+        let (found, most) = told(reading, width, &rows);
         assert_eq!(found, refusal);
+        let times = if reading == Crate {
+            191
+        } else {
+            width.max(400)
+        };
         assert!(
-            most <= 191 * (rows.len() + 30) + 12 * width,
+            most <= times * (rows.len() + 30) + 12 * width,
             "{most} bytes at width {width}"
         );
     }
