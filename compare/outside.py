@@ -1,4 +1,4 @@
-"""Our files read by OpenCV, OpenImageIO and vips, theirs read by us, and their row coders beside ours."""
+"""Our files read by OpenCV, OpenImageIO and vips, theirs read by us, and their row coders beside ours; our document reading beside theirs and image's."""
 
 import os
 import subprocess
@@ -12,7 +12,8 @@ import OpenImageIO
 from papers import decode, lower_edge, middle, numbers, pixels_of, split_file
 
 SEED = int(sys.argv[1])
-REPLAY = sys.argv[2:]
+IMAGE = sys.argv[2]
+REPLAY = sys.argv[3:]
 
 
 def ask(lines):
@@ -86,6 +87,18 @@ class Vips:
         run("rawload", path + ".raw", path + ".v", str(width), str(height), "3", "--format", "float", "--interpretation", "scrgb")
         run("float2rad", path + ".v", path + ".w.v")
         run("radsave", path + ".w.v", path)
+
+
+class Image:
+    name = "image " + subprocess.run(["dpkg-query", "-W", "-f", "${Version}", "librust-image-dev"], stdout=subprocess.PIPE, check=True).stdout.decode().split("-")[0]
+    predicted = staticmethod(lower_edge)
+    edge = "lower edge"
+
+    @staticmethod
+    def read(path):
+        said = subprocess.run([IMAGE, "read", path, path + ".raw"], stdout=subprocess.PIPE, check=True).stdout.decode().split()
+        assert said[0] == "ok", said
+        return numpy.fromfile(path + ".raw", "<f4").reshape(int(said[2]), int(said[1]), 3)
 
 
 PROGRAMS = [OpenCV, OpenImageIO_, Vips]
@@ -188,26 +201,100 @@ def ours_read_by_them(random, folder):
     return [bytes_row, *rows], notes
 
 
-def theirs_read_by_us(random, folder):
-    """Files that each program writes, read by us: within demand 3's range, so the reading is the lower edge."""
+def theirs_read_by_us(random, folder, call, name, low, high):
+    """Files that each program writes, read by us: within demand 3's range for that reading, so it is the lower edge."""
     table = []
     for program in PROGRAMS:
-        row = Row(program.name, "ours", "lower edge, whole file taken")
+        row = Row(program.name, name, "lower edge, whole file taken")
         lines, expected = [], []
-        for number, frame in enumerate(frames(random, -31, 31)):
+        for number, frame in enumerate(frames(random, low, high)):
             height, width, _ = frame.shape
             path = os.path.join(folder, f"theirs{number}.hdr")
             program.write(path, frame)
             with open(path, "rb") as file:
                 data = file.read()
             pixels = decode(split_file(data, width, height), width, height)
-            lines.append(f"read 65535 65535 {3 * width * height} {4 * width} " + hexadecimal(data))
+            lines.append(f"{call} 65535 65535 {3 * width * height} {4 * width} " + hexadecimal(data))
             expected.append((["0", "0", str(width), str(height), str(len(data))], lower_edge(pixels, frame.shape)))
         for answer, (words, values) in zip(ask(lines), expected):
             found = numpy.frombuffer(bytes.fromhex(answer[5]), ">f4") if answer[:5] == words else []
             row.add(found, values)
         table.append(row)
     return table
+
+
+# ---- the document reading beside the others
+
+
+def half_step(pixels, shape):
+    """What the middle of a step lies above its lower edge."""
+    return middle(pixels, shape) - lower_edge(pixels, shape)
+
+
+def read_alike(files, programs, what, folder):
+    """Files, each with its four-byte pixels, read by us by the document and by the programs: the same, or half a step apart where a program gives the middle."""
+    lines = [f"readd 65535 65535 {3 * w * h} {4 * w} " + hexadecimal(data) for w, h, data, _ in files]
+    ours = ask(lines)
+    rows = [Row(what, f"ours by the document, and {p.name}", "alike" if p.edge == "lower edge" else "half a step apart") for p in programs]
+    inexact = dict(zip((p.name for p in PROGRAMS), inexact_factors(folder)))
+    path = os.path.join(folder, "alike.hdr")
+    for (w, h, data, pixels), answer in zip(files, ours):
+        with open(path, "wb") as file:
+            file.write(data)
+        done = answer[:5] == ["0", "0", str(w), str(h), str(len(data))]
+        samples = numpy.frombuffer(bytes.fromhex(answer[5]), ">f4").astype(float).reshape(h, w, 3) if done else numpy.zeros(0)
+        at = numbers(pixels)[3::4].repeat(3)
+        for row, program in zip(rows, programs):
+            found = program.read(path).astype(float)
+            apart = half_step(pixels, (h, w)) if program.edge == "middle" else 0
+            row.add(found - apart, samples, numpy.isin(at, inexact.get(program.name, [])))
+    return rows
+
+
+def every_exponent():
+    """All pairs of mantissa and exponent byte, in coded rows that we write."""
+    files = []
+    for start in range(0, 256, 64):
+        pixels = bytes(b for e in range(start, start + 64) for m in range(256) for b in (m, 255 - m, (m + 85) % 256, e))
+        length, data = ask([f"write4 256 64 70000 {pixels.hex()}"])[0][2:]
+        files.append((256, 64, bytes.fromhex(data)[:int(length)], pixels))
+    return files
+
+
+def old_run_row(random, width):
+    """A flat row with old runs, and its four-byte pixels: n * 256^k copies, k the runs directly ahead, 0 among the n. Some rows start with 2."""
+    def pixel(red, green):
+        return bytes([red, green, random.integers(0, 256), random.integers(1, 256)])
+
+    last = row = pixel(random.choice([0, 2, 3, 200]), 3)
+    pixels, shift = [last], 0
+    while len(pixels) < width:
+        most = (width - len(pixels)) >> shift
+        kind = random.random()
+        if kind < 0.1 and shift < 16:
+            row, shift = row + bytes([1, 1, 1, 0]), shift + 8
+        elif kind < 0.5 and most > 0:
+            n = int(min(most, 255, random.choice([1, 2, 255, random.integers(1, most + 1)])))
+            pixels += [last] * (n << shift)
+            row, shift = row + bytes([1, 1, 1, n]), shift + 8
+        else:
+            last = pixel(random.integers(3, 256), random.integers(0, 256))
+            row, shift = row + last, 0
+            pixels.append(last)
+    return row, b"".join(pixels)
+
+
+def files_with_old_runs(random, count):
+    files = []
+    for _ in range(count):
+        width, height = int(random.choice([1, 2, 5, 7, 8, 9, 20, 100, 256, 257, 258, 300, 600, 1200])), int(random.integers(1, 4))
+        rows = [old_run_row(random, width) for _ in range(height)]
+        head = b"#?RADIANCE\nFORMAT=32-bit_rle_rgbe\n\n-Y %d +X %d\n" % (height, width)
+        files.append((width, height, head + b"".join(r for r, _ in rows), b"".join(p for _, p in rows)))
+    return files
+
+
+# ---- row coders
 
 
 def coded_row(random, width):
@@ -252,7 +339,11 @@ def main():
         progress("files that we write, read by others")
         table, notes = ours_read_by_them(random, folder)
         progress("files that others write, read by us")
-        table += theirs_read_by_us(random, folder)
+        table += theirs_read_by_us(random, folder, "read", "ours", -31, 31)
+        table += theirs_read_by_us(random, folder, "readd", "ours by the document", -100, 127)
+        progress("every exponent byte, and old runs")
+        table += read_alike(every_exponent(), [OpenCV, OpenImageIO_, Image, Vips], "ours, every exponent byte", folder)
+        table += read_alike(files_with_old_runs(random, 200), [Image, Vips], "files with old runs", folder)
         progress("row coders")
         table += row_coders(random, folder, 1000)
     print(f"seed {SEED}\n")

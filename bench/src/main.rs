@@ -1,6 +1,7 @@
 //! Reads and writes skies by this project and by the Rust, to be measured. In the folder that it is run in:
 //!   bench make SKY             both write and read the sky, what they give is compared, and it is kept as SKY.f32 and SKY.hdr
-//!   bench WHO WHAT SKY FRAMES  that many frames by `ours` or `rust`: decode, encode, exact (encode into room for no byte more)
+//!   bench WHO WHAT SKY FRAMES  that many frames by `ours` or `rust`: decode, document (decode, ours by the document), encode,
+//!                              exact (encode into room for no byte more)
 //!   bench time WHAT SKY        nanoseconds per pixel, ours and the Rust's: the best of ROUNDS turns of each
 
 mod skies;
@@ -20,9 +21,33 @@ const ROUNDS: usize = 9;
 /// Room for a header, and for the rows at their worst.
 const WORST: usize = 1024 + HEIGHT * (4 + 4 * (WIDTH + WIDTH / 128));
 
+/// A call that reads a file.
+type Read = unsafe extern "C" fn(
+    bytes: *const u8,
+    length: usize,
+    widest: usize,
+    highest: usize,
+    out: *mut f32,
+    out_length: usize,
+    store: *mut u8,
+    store_length: usize,
+    answer: *mut [u64; 8],
+);
+
 #[link(name = "doorwhisp", kind = "static")]
 extern "C" {
     fn doorwhisp_read(
+        bytes: *const u8,
+        length: usize,
+        widest: usize,
+        highest: usize,
+        out: *mut f32,
+        out_length: usize,
+        store: *mut u8,
+        store_length: usize,
+        answer: *mut [u64; 8],
+    );
+    fn doorwhisp_read_document(
         bytes: *const u8,
         length: usize,
         widest: usize,
@@ -44,12 +69,12 @@ extern "C" {
     );
 }
 
-/// Our reader.
-fn read_ours(file: &[u8], out: &mut [f32]) {
+/// Our reader, by one of its calls.
+fn read_ours(call: Read, file: &[u8], out: &mut [f32]) {
     let mut store = vec![0; 4 * WIDTH];
     let mut answer = [1; 8];
     unsafe {
-        doorwhisp_read(
+        call(
             file.as_ptr(),
             file.len(),
             65535,
@@ -103,8 +128,9 @@ impl Bench {
     fn turn(&mut self, who: &str, what: &str) {
         let exact = self.file.len();
         match (who, what) {
-            ("ours", "decode") => read_ours(&self.file, &mut self.read),
-            ("rust", "decode") => read_rust(&self.file, &mut self.read),
+            ("ours", "decode") => read_ours(doorwhisp_read, &self.file, &mut self.read),
+            ("ours", "document") => read_ours(doorwhisp_read_document, &self.file, &mut self.read),
+            ("rust", "decode" | "document") => read_rust(&self.file, &mut self.read),
             ("ours", "encode") => assert_eq!(write_ours(&self.samples, &mut self.out), exact),
             ("rust", "encode") => assert_eq!(write_rust(&self.samples, &mut self.out), exact),
             ("ours", "exact") => assert_eq!(write_ours(&self.samples, &mut self.out[..exact]), exact),
@@ -129,7 +155,7 @@ fn from_bytes(bytes: &[u8]) -> Vec<f32> {
     bytes.chunks_exact(4).map(|b| f32::from_le_bytes([b[0], b[1], b[2], b[3]])).collect()
 }
 
-/// Both write the same file, byte for byte, and both read it as the same samples, bit for bit.
+/// Both write the same file, byte for byte, and both read it as the same samples, bit for bit, ours by either reading.
 fn make(sky: &str) {
     let samples = skies::samples(sky);
     let (mut ours, mut rust) = (vec![7; WORST], vec![9; WORST]);
@@ -140,9 +166,12 @@ fn make(sky: &str) {
     assert!(ours == rust, "the files differ");
     let file = ours;
     let (mut ours, mut rust) = (vec![7.0; 3 * PIXELS], vec![9.0; 3 * PIXELS]);
-    read_ours(&file, &mut ours);
     read_rust(&file, &mut rust);
-    assert!(to_bytes(&ours) == to_bytes(&rust), "the samples differ");
+    for call in [doorwhisp_read as Read, doorwhisp_read_document] {
+        ours.fill(7.0);
+        read_ours(call, &file, &mut ours);
+        assert!(to_bytes(&ours) == to_bytes(&rust), "the samples differ");
+    }
     fs::write(format!("{sky}.f32"), to_bytes(&samples)).expect("room for the samples");
     fs::write(format!("{sky}.hdr"), &file).expect("room for the file");
     println!("{sky}: {} bytes, written alike and read alike by both", file.len());
