@@ -416,7 +416,7 @@ def main():
     for part in (reader_refusals, old_runs, writer_refusals, pixels, bounds_of_bytes, worst_lengths, no_form):
         pairs += part()
     by_rules = len(pairs)
-    for line, answer in by_hand():
+    for line, answer in dict(by_hand()).items():
         if reading.answer(line) != answer:
             sys.exit(f"list: compare/reading.py answers otherwise than by hand: {line[:200]}")
         pairs.append((line, answer))

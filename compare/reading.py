@@ -10,11 +10,11 @@ BLANKS = b"\t\n\x0b\x0c\r "
 
 
 class Refused(Exception):
-    """A refusal: its number. Those of a row, 9 and 14, are met while that row is read."""
+    """A refusal: its number, and the row where it has one and that is known."""
 
-    def __init__(self, number):
+    def __init__(self, number, row=None):
         super().__init__(number)
-        self.number = number
+        self.number, self.row = number, row
 
 
 class Source:
@@ -161,6 +161,16 @@ def read(data, widest, highest, out, store):
         return refused.number, 0, 0, 0, 0
     done, number = rows(source, width, height, out, store)
     return (number, done, 0, 0, 0) if number else (0, 0, width, height, source.place)
+
+
+def picture(data, limit):
+    """Width, height and the samples' bit patterns, read with room enough under a limit for both sizes; or a refusal is raised."""
+    width, height = checked_header(Source(data), limit, limit, 3 * limit**2, 4 * limit)
+    out = [b""] * (3 * width * height)
+    number, row, *_ = read(data, limit, limit, out, bytearray(4 * width))
+    if number:
+        raise Refused(number, row)
+    return width, height, b"".join(out)
 
 
 # ---- lines

@@ -2,50 +2,19 @@
 
 import numpy
 
-
-class Refused(Exception):
-    """A refusal: its number, and the row of numbers 9 and 25."""
+from reading import Refused, Source, header
 
 
-class Input:
+class Input(Source):
     def __init__(self, data, old_runs):
-        self.data, self.place, self.row, self.old_runs = data, 0, 0, old_runs
+        super().__init__(data)
+        self.old_runs = old_runs
 
     def byte(self):
-        if self.place == len(self.data):
-            raise Refused(9, self.row)
-        self.place += 1
-        return self.data[self.place - 1]
+        return self.take(1)[0]
 
     def byte_or_0(self):
         return 0 if self.place == len(self.data) else self.byte()
-
-    def until(self, end):
-        """The bytes up to `end`, which is taken too, or to the end of the bytes."""
-        start = self.place
-        found = self.data.find(end, start)
-        self.place = len(self.data) if found < 0 else found + 1
-        return self.data[start:self.place]
-
-
-def size(field):
-    digits = field[1:] if field[:1] == b"+" else field
-    if not digits.isdigit() or int(digits) >= 2**64:
-        raise Refused(3)
-    return int(digits)
-
-
-def header(source):
-    if source.until(b"\n") not in (b"#?RADIANCE\n", b"#?RGBE\n"):
-        raise Refused(1)
-    while source.until(b"\n")[:1] not in (b"\n", b""):
-        pass
-    fields = [source.until(end).strip(b"\t\n\x0b\x0c\r ") for end in (b" ", b" ", b" ", b"\n")]
-    axes = fields[0], fields[2]
-    if axes not in ((b"-Y", b"+X"), (b"+X", b"-Y")):
-        raise Refused(2)
-    first, second = size(fields[1]), size(fields[3])
-    return (second, first) if axes[0] == b"-Y" else (first, second)
 
 
 def flat_part(source, store, start, wanted):
@@ -57,7 +26,7 @@ def flat_part(source, store, start, wanted):
             place, wanted, shift = place + 4, wanted - 1, 0
             continue
         if not source.old_runs:
-            raise Refused(25, source.row)
+            raise Refused(25)
         count = store[place + 3] << shift
         while wanted > 0 and place - start > 4 and count > 0:
             store[start + 4:start + 8] = store[place - 4:place]
@@ -101,7 +70,7 @@ def sample(m, e):
 
 
 def read(data, limit, old_runs):
-    """Width, height and samples; or a refusal is raised. Output and row store are taken to be enough."""
+    """Width, height and samples, read with room enough under a limit for both sizes; or a refusal is raised."""
     source = Input(data, old_runs)
     width, height = header(source)
     if height > limit or width > limit:
@@ -109,8 +78,11 @@ def read(data, limit, old_runs):
     if width == 0:
         raise Refused(7)
     store, samples = bytearray(4 * width), []
-    for source.row in range(height):
-        row(source, store, width)
+    for y in range(height):
+        try:
+            row(source, store, width)
+        except Refused as refused:
+            raise Refused(refused.number, y) from None
         for x in range(width):
             samples += [sample(m, store[4 * x + 3]) for m in store[4 * x:4 * x + 3]]
     return width, height, numpy.array(samples, numpy.float32)

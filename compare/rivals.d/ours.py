@@ -1,4 +1,5 @@
-"""Reads and writes by Doorwhisp's replay program: PROGRAM.. is in the environment as REPLAY.
+"""Reads and writes by Doorwhisp's replay program: PROGRAM.. is in the environment as REPLAY. The first word is the reading, by the
+line that asks for it: readd, by the document, or read, as zune-hdr reads. Then
 read FILE OUT, after FILE OUT, write W H IN OUT, length W H IN."""
 
 import os
@@ -8,6 +9,7 @@ import sys
 import numpy
 
 REPLAY = os.environ["REPLAY"].split()
+READING = sys.argv[1]
 LIMIT = 65535
 
 
@@ -28,12 +30,12 @@ def called(path):
     if head[0] != "0":
         return head, None
     width, height = int(head[2]), int(head[3])
-    answer = ask(f"read {LIMIT} {LIMIT} {3 * width * height} {4 * width} " + data.hex())
+    answer = ask(f"{READING} {LIMIT} {LIMIT} {3 * width * height} {4 * width} " + data.hex())
     return answer, numpy.frombuffer(bytes.fromhex(answer[5]), ">f4")
 
 
 def refusal(answer):
-    return f"error refusal {answer[0]}" + (f" in row {answer[1]}" if answer[0] in ("9", "25") else "")
+    return f"error refusal {answer[0]}" + (f" in row {answer[1]}" if answer[0] in ("9", "14", "25") else "")
 
 
 def read(path, out):
@@ -74,4 +76,4 @@ def write(width, height, samples, out):
     return "ok"
 
 
-print({"read": read, "after": after, "write": write, "length": length}[sys.argv[1]](*sys.argv[2:]))
+print({"read": read, "after": after, "write": write, "length": length}[sys.argv[2]](*sys.argv[3:]))

@@ -3,6 +3,7 @@
 import numpy
 
 import crate
+import reading
 from papers import lower_edge, middle
 
 VALUES = ((lower_edge, ""), (middle, ", middle"))
@@ -21,15 +22,28 @@ def same(found, wanted):
     return len(found) == len(wanted) and bool(numpy.all((found == wanted) | numpy.isnan(wanted)))
 
 
-def by_crate(case, done, limit=2**32, old_runs=True):
-    """Whether the reading is the one of the crate's rule under a limit for both sizes, with its old runs or without."""
+def as_told(done, read):
+    """Whether the reading is the one that a function gives: width, height and samples, or a refusal. Words that are no refusal's do for each."""
     try:
-        width, height, samples = crate.read(case.data, limit, old_runs)
-    except crate.Refused as refused:
-        number, *row = refused.args
-        words = f"refusal {number}" + "".join(f" in row {y}" for y in row)
+        width, height, samples = read()
+    except reading.Refused as refused:
+        words = f"refusal {refused.number}" + ("" if refused.row is None else f" in row {refused.row}")
         return done.how == "error" and done.words == (words if done.words.startswith("refusal") else done.words)
     return done.how == "ok" and (done.width, done.height) == (width, height) and same(done.samples, samples)
+
+
+def by_crate(case, done, limit=2**32, old_runs=True):
+    """Whether the reading is the one of the crate's rule under a limit for both sizes, with its old runs or without."""
+    return as_told(done, lambda: crate.read(case.data, limit, old_runs))
+
+
+def by_document(case, done, limit):
+    """Whether the reading is the document's, to the bit and to the row of a refusal."""
+    def read():
+        width, height, patterns = reading.picture(case.data, limit)
+        return width, height, numpy.frombuffer(patterns, ">f4")
+
+    return as_told(done, read)
 
 
 def invented(case, done):
