@@ -48,6 +48,10 @@ def repeats():
     yield told(0, 258, 1, P + run(0) + run(1) + Q, [P] * 257 + [Q])
     yield told(14, 260, 1, P + run(0) * 2 + run(1), [], P)
     yield told(14, 260, 1, P + run(0) * 3 + run(255), [], P)
+    # n * 256^k has no upper end: not at 2^16, 2^32 or 2^64
+    for k in (2, 3, 4, 7, 8, 9, 16, 32, 64):
+        yield told(14, 4, 1, P + run(0) * k + run(1), [], P, behind=Q * 3)
+        yield told(0, 2, 1, P + run(0) * k + Q, [P, Q], behind=Q)
     # one that passes the row's end writes nothing
     yield told(14, 4, 1, P + run(4), [], P)
     yield told(14, 4, 1, P + run(2) + run(1), [], P * 3)
