@@ -26,3 +26,5 @@ pub mod RadianceFlat
 pub mod RadianceWritten
 pub mod RadianceShown
 pub mod RadianceApart
+pub mod Starts
+pub mod EveryCut

@@ -36,9 +36,9 @@ pub record Sizes (w h : ℕ) : Type 0 where
   pub wide : w ≤ 65535
   pub high : h ≤ 65535
 
--- "all samples are finite, none is negative and each pixel's largest is 0 or from 2^-32 to below 2^31", of n pixels
-abbrev pub AllInRange : List Float → ℕ → Type 0
-AllInRange samples n = (k : ℕ) → k < n → InRange (pixel samples k)
+-- "all samples are finite, none is negative and each pixel's largest is" in the range of the reading (`rangeOf` of loss), of n pixels
+abbrev pub AllInRange : (ℕ → Type 0) → List Float → ℕ → Type 0
+AllInRange range samples n = (k : ℕ) → k < n → InRange range (pixel samples k)
 
 -- "room and limits enough": the limits, and the output and row store that are lent
 pub record Enough (w h widest highest : ℕ) (out : List Float) (store : List ℕ) : Type 0 where

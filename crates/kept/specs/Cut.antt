@@ -1,18 +1,21 @@
--- The cut that is not refused, of a whole file: its last row is coded, and the bytes end inside what that row's last count asks for.
+-- The cut that the crate reading does not refuse, of a whole file: its last row is coded, and the bytes end inside what that row's last count asks for.
+-- And that the document reading refuses every cut.
 use Prim.Native.Nat.{ℕ, zero, suc, _+_, _*_, _<_, _≤_}
 use mathlib.Core.List.{List, _++_}
 use mathlib.Core.Logic.{_⊎_}
 use mathlib.Core.Path.{_≡_}
 use lib.Ieee.{Float}
-use lib.ListN.{length}
+use lib.ListN.{length, take}
 use Rattle.steps.specs.Loop.{more}
-use Rattle.steps.specs.Answer.{done}
+use Rattle.steps.specs.Answer.{Answer, done, refused}
+use Rattle.steps.specs.declared.Reading.the-variants.{Document}
 use Rattle.header.specs.declared.Head.{Head}
 use Rattle.header.specs.Head.{headerOf}
-use Rattle.rows_read.specs.Row.{crateRow}
+use Rattle.rows_read.specs.Row.{crateRow, documentRow}
 use Rattle.rows_read.specs.Cut.{Short, CutRow}
 use Rattle.reader.specs.Frame.{Stored, storedOf, cleared, Rows, rows, rowTurn}
-use Rattle.reader.specs.Read.{cratePixel, readBy}
+use Rattle.reader.specs.Read.{cratePixel, documentPixel, readBy, readOf}
+use Rattle.kept.specs.Lent.{before, RowsRead}
 
 -- after n rows more, from x on, the reader is at y
 abbrev pub AfterRows : List ℕ → Stored → ℕ → Rows → Rows → Type 0
@@ -42,3 +45,24 @@ WholeOrCut =
     → readBy crateRow cratePixel bytes widest highest out store ≡ (done head, out′, store′) → 0 < head .height
     → ((c : CutFile bytes widest highest out store) × Short bytes (c .head .width) (c .cut .end))
     ⊎ ((rest : List ℕ) → readBy crateRow cratePixel (bytes ++ rest) widest highest out store ≡ (done head, out′, store′))
+
+-- ---- By the document reading every cut is refused
+
+-- of a file whose header says `own`, the first m bytes end in row k: it starts among them, and ends behind them
+pub record CutIn (bytes : List ℕ) (own : Head) (store : List ℕ) (m k : ℕ) : Type 0 where
+  pub row : k < own .height
+  pub from : before documentRow bytes (own .width) (own .taken) (cleared (own .width) store) k .0 ≤ m
+  pub behind : m < before documentRow bytes (own .width) (own .taken) (cleared (own .width) store) (k + 1) .0
+
+-- refusal 9 in row k, with the rows before it in the output as the whole file has them, and the rest of it as lent
+pub record RefusedIn (bytes : List ℕ) (own : Head) (out : List Float) (store : List ℕ) (k : ℕ) (left : Answer Head × List Float × List ℕ) : Type 0 where
+  pub number : left .0 ≡ refused 9 k
+  pub rows : RowsRead documentRow documentPixel bytes (storedOf own) (own .taken) (cleared (own .width) store) k out (left .1)
+
+-- A file that is read, of which `head .taken` bytes are taken, and a shorter beginning of it that holds the header: it is refused so, in the row in
+-- which it ends.
+abbrev pub EveryCut : Type 0
+EveryCut =
+    (bytes : List ℕ) (m widest highest : ℕ) (out out′ : List Float) (store store′ : List ℕ) (head own : Head)
+    → readOf Document bytes widest highest out store ≡ (done head, out′, store′) → headerOf bytes widest highest ≡ done own → own .taken ≤ m → m < head .taken
+    → (k : ℕ) × CutIn bytes own store m k × RefusedIn bytes own out store k (readOf Document (take m bytes) widest highest out store)

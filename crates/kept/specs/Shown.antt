@@ -5,6 +5,7 @@ use Prim.Native.Nat.{ℕ, zero, suc, _+_, _-_, _^_}
 use lib.Ieee.{nan, inf}
 use lib.ListN.{replicate}
 use Rattle.steps.specs.Answer.{done, refused, refuse}
+use Rattle.steps.specs.declared.Reading.the-variants.{Crate, Document}
 use Rattle.pixel.specs.declared.Packed.the-variants.{Bytes, TooBright}
 use Rattle.header.specs.Head.{head}
 use Rattle.words.specs.Lines.{rgbeLine, lineFeed, space}
@@ -55,30 +56,40 @@ unlit (suc n) = lit 0 ++ unlit n
 abbrev pub shown : List Case
 shown =
     -- DIFFERENCES 3: the bytes end after the last count, which asks for a run of 8 exponents: all of them are 0
-    reads (file [] (rows (digit 1) (digit 8)) ++ (threeChannels ++ (136 ∷ [])))
+    reads Crate (file [] (rows (digit 1) (digit 8)) ++ (threeChannels ++ (136 ∷ [])))
     (replicate 24 (whole 1 1)) (replicate 32 7)
     (done (head 8 1 29))
     (replicate 24 none) (unlit 8)
     -- the bytes end after two of 8 literal exponents: six of them are 0
-    ∷ reads (file [] (rows (digit 1) (digit 8)) ++ (threeChannels ++ (8 ∷ 129 ∷ 129 ∷ [])))
+    ∷ reads Crate (file [] (rows (digit 1) (digit 8)) ++ (threeChannels ++ (8 ∷ 129 ∷ 129 ∷ [])))
     (replicate 24 (whole 1 1)) (replicate 32 7)
     (done (head 8 1 31))
     (whole 1 0 ∷ part 1 1 ∷ part 1 2 ∷ whole 1 0 ∷ part 1 1 ∷ part 1 2 ∷ replicate 18 none) (lit 129 ++ (lit 129 ++ unlit 6))
+    -- by the document reading both are refused by 9, and what was read stands in the row store
+    ∷ reads Document (file [] (rows (digit 1) (digit 8)) ++ (threeChannels ++ (136 ∷ []))) (replicate 24 (whole 1 1)) (replicate 32 7) (refused 9 0) (replicate 24 (whole 1 1)) (unlit 8)
+    ∷ reads Document (file [] (rows (digit 1) (digit 8)) ++ (threeChannels ++ (8 ∷ 129 ∷ 129 ∷ [])))
+    (replicate 24 (whole 1 1)) (replicate 32 7)
+    (refused 9 0)
+    (replicate 24 (whole 1 1)) (lit 129 ++ (lit 129 ++ unlit 6))
+    -- 4: by the document reading a run of 9 in a row of 8 is refused by 14
+    ∷ reads Document (file [] (rows (digit 1) (digit 8)) ++ (2 ∷ 2 ∷ 0 ∷ 8 ∷ 137 ∷ 128 ∷ [])) (replicate 24 (whole 1 1)) (replicate 32 7) (refused 14 0) (replicate 24 (whole 1 1)) (replicate 32 0)
+    -- 5: and so is a mark of 9
+    ∷ reads Document (file [] (rows (digit 1) (digit 8)) ++ (2 ∷ 2 ∷ 0 ∷ 9 ∷ [])) (replicate 24 (whole 1 1)) (replicate 32 7) (refused 14 0) (replicate 24 (whole 1 1)) (replicate 32 0)
     -- 6: +X 2 -Y 2 and pixels 1, 2, 3, 4 are rows 1 2 and 3 4
-    ∷ reads (file [] (columns (digit 2) (digit 2)) ++ (1 ∷ 0 ∷ 0 ∷ 136 ∷ 2 ∷ 0 ∷ 0 ∷ 136 ∷ 3 ∷ 0 ∷ 0 ∷ 136 ∷ 4 ∷ 0 ∷ 0 ∷ 136 ∷ []))
+    ∷ reads Crate (file [] (columns (digit 2) (digit 2)) ++ (1 ∷ 0 ∷ 0 ∷ 136 ∷ 2 ∷ 0 ∷ 0 ∷ 136 ∷ 3 ∷ 0 ∷ 0 ∷ 136 ∷ 4 ∷ 0 ∷ 0 ∷ 136 ∷ []))
     (replicate 12 (whole 1 1)) (replicate 8 7)
     (done (head 2 2 34))
     (whole 1 0 ∷ none ∷ none ∷ whole 1 1 ∷ none ∷ none ∷ whole 3 0 ∷ none ∷ none ∷ whole 1 2 ∷ none ∷ none ∷ [])
     (3 ∷ 0 ∷ 0 ∷ 136 ∷ 4 ∷ 0 ∷ 0 ∷ 136 ∷ [])
     -- 8: FORMAT and EXPOSURE are passed over
-    ∷ reads (file (format ++ exposure) (rows (digit 1) (digit 1)) ++ (128 ∷ 64 ∷ 32 ∷ 129 ∷ []))
+    ∷ reads Crate (file (format ++ exposure) (rows (digit 1) (digit 1)) ++ (128 ∷ 64 ∷ 32 ∷ 129 ∷ []))
     (replicate 3 (whole 1 1)) (replicate 4 7)
     (done (head 1 1 56))
     (whole 1 0 ∷ part 1 1 ∷ part 1 2 ∷ []) (128 ∷ 64 ∷ 32 ∷ 129 ∷ [])
     -- 9: a no-break space behind an axis is not trimmed
-    ∷ reads (file [] (minusY ++ (194 ∷ 160 ∷ space ∷ 48 ∷ space ∷ (plusX ++ (space ∷ digit 1))))) (none ∷ []) (replicate 4 7) (refuse 2) (none ∷ []) (replicate 4 7)
+    ∷ reads Crate (file [] (minusY ++ (194 ∷ 160 ∷ space ∷ 48 ∷ space ∷ (plusX ++ (space ∷ digit 1))))) (none ∷ []) (replicate 4 7) (refuse 2) (none ∷ []) (replicate 4 7)
     -- 10: sizes of 2^32 by 2^32
-    ∷ reads (file [] (rows huge huge)) (none ∷ []) (replicate 4 7) (refuse 4) (none ∷ []) (replicate 4 7)
+    ∷ reads Crate (file [] (rows huge huge)) (none ∷ []) (replicate 4 7) (refuse 4) (none ∷ []) (replicate 4 7)
     -- 11: pixels written
     ∷ writes (pixel (part 1 1) (part 1 1) (part 1 1)) (Bytes (rgbe 128 128 128 128))
     ∷ writes (pixel (whole 1 0) (part 1 1) (part 1 2)) (Bytes (rgbe 128 64 32 129))
@@ -90,8 +101,10 @@ shown =
     ∷ writes (pixel nan (whole 5 0) (whole 1 0)) (Bytes (rgbe 0 160 32 131))
     -- 15: the f32 nearest to 0.004, three times; and a file of the pixel that the crate writes for it
     ∷ writes (pixel (part 0x83126f 31) (part 0x83126f 31) (part 0x83126f 31)) (Bytes (rgbe 131 131 131 121))
-    ∷ reads (file [] (rows (digit 1) (digit 1)) ++ (1 ∷ 1 ∷ 1 ∷ 128 ∷ []))
+    ∷ reads Crate (file [] (rows (digit 1) (digit 1)) ++ (1 ∷ 1 ∷ 1 ∷ 128 ∷ []))
     (replicate 3 (whole 1 1)) (replicate 4 7)
     (refused 25 0)
     (replicate 3 (whole 1 1)) (1 ∷ 1 ∷ 1 ∷ 128 ∷ [])
+    -- by the document reading it repeats a pixel that is not there
+    ∷ reads Document (file [] (rows (digit 1) (digit 1)) ++ (1 ∷ 1 ∷ 1 ∷ 128 ∷ [])) (replicate 3 (whole 1 1)) (replicate 4 7) (refused 14 0) (replicate 3 (whole 1 1)) (replicate 4 0)
     ∷ []

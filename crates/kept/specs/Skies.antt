@@ -11,34 +11,33 @@ use Rattle.pixel.specs.declared.Pixel.{Pixel}
 use Rattle.pixel.specs.declared.Rgbe.{Rgbe}
 use Rattle.pixel.specs.declared.Packed.{Packed}
 use Rattle.pixel.specs.declared.Packed.the-variants.{Bytes}
-use Rattle.pixel.specs.Rgbe.{crateUnits, pixelOf, packedOf}
-use Rattle.loss.specs.Document.{docUnits}
+use Rattle.steps.specs.declared.Reading.{Reading}
+use Rattle.steps.specs.declared.Reading.the-variants.{Crate, Document}
+use Rattle.pixel.specs.Rgbe.{unitsOf, pixelOf, packedOf}
 use Rattle.header.specs.declared.Head.{Head}
 use Rattle.header.specs.Head.{head}
 use Rattle.words.specs.Lines.{rgbeLine, lineFeed, space}
 use Rattle.words.specs.Fields.{minusY, plusX}
 use Rattle.channels_written.specs.Channel.{code}
-use Rattle.rows_read.specs.Row.{crateRow}
-use Rattle.reader.specs.Read.{cratePixel, readBy}
+use Rattle.reader.specs.Read.{readOf}
 
 -- ---- What a row of the table says
 
 pub data Case : Type 0 where
-  -- these four bytes are this pixel by the crate, and by the document
-  crate-reads document-reads : Rgbe → Pixel → Case
+  -- these four bytes are this pixel by the reading
+  shows : Reading → Rgbe → Pixel → Case
   -- this pixel is written so
   writes : Pixel → Packed → Case
   -- this channel is written as these bytes
   codes : List ℕ → List ℕ → Case
-  -- these bytes, with this output and row store lent, and limits of 65,535: the answer, the output and the row store afterwards
-  reads : List ℕ → List Float → List ℕ → Answer Head → List Float → List ℕ → Case
+  -- these bytes by the reading, with this output and row store lent, and limits of 65,535: the answer, the output and the row store afterwards
+  reads : Reading → List ℕ → List Float → List ℕ → Answer Head → List Float → List ℕ → Case
 
 abbrev pub Right : Case → Type 0
-Right (crate-reads q p) = pixelOf crateUnits q ≡ p
-Right (document-reads q p) = pixelOf docUnits q ≡ p
+Right (shows reading q p) = pixelOf (unitsOf reading) q ≡ p
 Right (writes p q) = packedOf p ≡ q
 Right (codes xs ys) = code xs ≡ ys
-Right (reads bytes out store answer out′ store′) = readBy crateRow cratePixel bytes 65535 65535 out store ≡ (answer, out′, store′)
+Right (reads reading bytes out store answer out′ store′) = readOf reading bytes 65535 65535 out store ≡ (answer, out′, store′)
 
 -- every row is right
 abbrev pub Each : List Case → Type 0
@@ -75,28 +74,41 @@ small height width = rgbeLine ++ (lineFeed ∷ (minusY ++ (space ∷ (48 + heigh
 abbrev oldRun : List ℕ
 oldRun = 10 ∷ 10 ∷ 10 ∷ 129 ∷ 20 ∷ 20 ∷ 20 ∷ 129 ∷ 1 ∷ 1 ∷ 1 ∷ 2 ∷ []
 
+-- 10 and 20 times 2^-7
+abbrev tenth : Float
+tenth = part 5 6
+
+abbrev fifth : Float
+fifth = part 5 5
+
 -- ---- The table
 
 abbrev pub skies : List Case
 skies =
     -- 1: empty input; #?RADIANCE with no line feed
-    reads [] (whole 1 0 ∷ []) (7 ∷ []) (refuse 1) (whole 1 0 ∷ []) (7 ∷ [])
-    ∷ reads (35 ∷ 63 ∷ 82 ∷ 65 ∷ 68 ∷ 73 ∷ 65 ∷ 78 ∷ 67 ∷ 69 ∷ []) [] [] (refuse 1) [] []
+    reads Crate [] (whole 1 0 ∷ []) (7 ∷ []) (refuse 1) (whole 1 0 ∷ []) (7 ∷ [])
+    ∷ reads Crate (35 ∷ 63 ∷ 82 ∷ 65 ∷ 68 ∷ 73 ∷ 65 ∷ 78 ∷ 67 ∷ 69 ∷ []) [] [] (refuse 1) [] []
     -- 2: height 0 and width 3: done, 18 taken, no sample written
-    ∷ reads (small 0 3) (whole 1 0 ∷ []) (replicate 13 7) (done (head 3 0 18)) (whole 1 0 ∷ []) (replicate 12 0 ++ 7 ∷ [])
+    ∷ reads Crate (small 0 3) (whole 1 0 ∷ []) (replicate 13 7) (done (head 3 0 18)) (whole 1 0 ∷ []) (replicate 12 0 ++ 7 ∷ [])
     -- 4: four bytes to samples
-    ∷ crate-reads (rgbe 128 64 32 129) (pixel (whole 1 0) (part 1 1) (part 1 2))
-    ∷ crate-reads (rgbe 1 0 0 97) (pixel (part 1 39) none none)
-    ∷ crate-reads (rgbe 128 0 0 96) (pixel (part 1 1) none none)
-    ∷ crate-reads (rgbe 128 0 0 160) (pixel (part 1 1) none none)
-    ∷ document-reads (rgbe 128 0 0 96) (pixel (part 1 33) none none)
-    ∷ document-reads (rgbe 128 0 0 160) (pixel (whole 1 31) none none)
-    ∷ crate-reads (rgbe 255 255 255 0) (pixel none none none)
+    ∷ shows Crate (rgbe 128 64 32 129) (pixel (whole 1 0) (part 1 1) (part 1 2))
+    ∷ shows Crate (rgbe 1 0 0 97) (pixel (part 1 39) none none)
+    ∷ shows Crate (rgbe 128 0 0 96) (pixel (part 1 1) none none)
+    ∷ shows Crate (rgbe 128 0 0 160) (pixel (part 1 1) none none)
+    ∷ shows Document (rgbe 128 0 0 96) (pixel (part 1 33) none none)
+    ∷ shows Document (rgbe 128 0 0 160) (pixel (whole 1 31) none none)
+    ∷ shows Crate (rgbe 255 255 255 0) (pixel none none none)
     -- 5: width 4, one row with an old run: refused in row 0
-    ∷ reads (small 1 4 ++ oldRun)
+    ∷ reads Crate (small 1 4 ++ oldRun)
     (replicate 12 (whole 1 0)) (replicate 16 7)
     (refused 25 0)
     (replicate 12 (whole 1 0)) (oldRun ++ replicate 4 0)
+    -- by the document reading the two pixels wanted are copies of the second: done, 30 taken
+    ∷ reads Document (small 1 4 ++ oldRun)
+    (replicate 12 (whole 1 0)) (replicate 16 7)
+    (done (head 4 1 30))
+    (tenth ∷ tenth ∷ tenth ∷ fifth ∷ fifth ∷ fifth ∷ fifth ∷ fifth ∷ fifth ∷ fifth ∷ fifth ∷ fifth ∷ [])
+    (10 ∷ 10 ∷ 10 ∷ 129 ∷ 20 ∷ 20 ∷ 20 ∷ 129 ∷ 20 ∷ 20 ∷ 20 ∷ 129 ∷ 20 ∷ 20 ∷ 20 ∷ 129 ∷ [])
     -- 6: channels
     ∷ codes (5 ∷ 5 ∷ 9 ∷ 9 ∷ 9 ∷ 9 ∷ 9 ∷ 9 ∷ []) (130 ∷ 5 ∷ 134 ∷ 9 ∷ [])
     ∷ codes (5 ∷ 5 ∷ 6 ∷ 9 ∷ 9 ∷ 9 ∷ 9 ∷ 9 ∷ []) (3 ∷ 5 ∷ 5 ∷ 6 ∷ 133 ∷ 9 ∷ [])
@@ -104,5 +116,5 @@ skies =
     ∷ writes (pixel dusk dusk dusk) (Bytes (rgbe 196 196 196 120))
     ∷ writes (pixel (fin true 1 (pos 0)) nan (part 1 32)) (Bytes (rgbe 0 0 128 97))
     -- what 0.003 comes back as: 49/16384, which is 0.00299072265625
-    ∷ crate-reads (rgbe 196 196 196 120) (pixel (part 49 14) (part 49 14) (part 49 14))
+    ∷ shows Crate (rgbe 196 196 196 120) (pixel (part 49 14) (part 49 14) (part 49 14))
     ∷ []

@@ -5,6 +5,8 @@ use mathlib.Core.Path.{_≡_}
 use lib.ListN.{length, take}
 use Rattle.steps.specs.declared.Taken.{Taken}
 use Rattle.steps.specs.declared.Taken.the-variants.{Done, Fault}
+use Rattle.steps.specs.declared.Reading.{Reading}
+use Rattle.steps.specs.declared.Reading.the-variants.{Crate, Document}
 use Rattle.rows_read.specs.Row.{RowRule}
 
 -- An answer in which no missing byte has a part, of n bytes: the next place lies before their end, or the fault is not that bytes are missing.
@@ -33,10 +35,15 @@ abbrev pub Alike : ℕ → List ℕ → List ℕ → Type 0
 Alike n src other = (n ≤ length src) × (n ≤ length other) × (take n other ≡ take n src)
 
 -- An answer that rests on the first n bytes of `long`: none behind them was taken, or the fault is not that bytes are missing and those are all.
--- Where a reading takes a row whose last bytes are missing, `gap` bytes behind those taken show that none was: one in the crate reading (RULES 4.8).
+-- Where a reading takes a row whose last bytes are missing, `gap` bytes behind those taken show that none was.
 abbrev pub Rests : ℕ → ℕ → ℕ → Taken → Type 0
 Rests gap long n (Done next) = (next ≤ n) × (next + gap ≤ long)
 Rests gap long n (Fault number) = (number ≡ 9 → ⊥) × (long ≤ n)
+
+-- one in the crate reading (RULES 4.8); the document reading refuses every missing byte
+abbrev pub gapOf : Reading → ℕ
+gapOf Crate = 1
+gapOf Document = 0
 
 -- other bytes behind those that an answer rests on, more of them or fewer: it is the same
 abbrev pub Alone : ℕ → RowRule → Type 0

@@ -14,17 +14,18 @@ use Rattle.steps.specs.Place.{spread}
 use Rattle.steps.proofs.Laws.Place.{length-spread, spread-front}
 use Rattle.pixel.specs.declared.Pixel.{Pixel}
 use Rattle.pixel.specs.declared.Rgbe.{Rgbe}
-use Rattle.pixel.specs.Rgbe.{crateUnits, pixelOf, peak, dark, bytesOf, rgbeAt}
+use Rattle.steps.specs.declared.Reading.{Reading}
+use Rattle.pixel.specs.Rgbe.{unitsOf, pixelOf, peak, dark, bytesOf, rgbeAt}
 use Rattle.loss.specs.Written.{Ones}
-use Rattle.loss.specs.Kept.{InRange, Lies, step, KeptAll, zeros}
+use Rattle.loss.specs.Kept.{rangeOf, InRange, Lies, step, KeptAll, zeros}
 use Rattle.loss.proofs.Laws.Kept.{kept-at-a-pixel, black-back}
 use Rattle.loss.proofs.Laws.Written.{written-no-ones}
 use Rattle.flat_read.specs.Flat.{isRepeat}
-use Rattle.rows_read.specs.Row.{RowRule, crateRow}
-use Rattle.back.proofs.Laws.Row.{RowsBack, crate-row-back}
+use Rattle.rows_read.specs.Row.{RowRule, rowOf}
+use Rattle.back.proofs.Laws.Row.{RowsBack, reading-row-back}
 use Rattle.reader.specs.Samples.{SampleRule}
 use Rattle.reader.specs.Inner.{samplesFrom}
-use Rattle.reader.specs.Read.{cratePixel, readBy}
+use Rattle.reader.specs.Read.{pixelBy, readBy, readOf}
 use Rattle.frames_written.specs.Samples.{pixelAt, packed}
 use Rattle.frames_written.specs.Frame.{fileOf}
 use Rattle.kept.specs.Radiance.{isOldRun}
@@ -88,8 +89,8 @@ packed-no-ones samples n k h = ap isOldRun (packed-bytes samples n k h) ∙ not-
 -- ---- What is asked of a rule for a pixel
 
 -- each pixel in range comes back as the demand says, and a black one as zeros
-pub record PixelsBack (rule : SampleRule) : Type 0 where
-  pub kept : (p : Pixel) (n : ℕ) → InRange p → Lies p n → KeptAll (step n) p (rule (bytesOf p))
+pub record PixelsBack (range : ℕ → Type 0) (rule : SampleRule) : Type 0 where
+  pub kept : (p : Pixel) (n : ℕ) → InRange range p → Lies p n → KeptAll (step n) p (rule (bytesOf p))
   pub black : (p : Pixel) → peak p ≡ 0 → rule (bytesOf p) ≡ zeros
 
 -- ---- Demand 3, by any rules of which that holds
@@ -102,8 +103,8 @@ module _ (rowRule : RowRule) (rule : SampleRule) (rows : RowsBack rowRule) where
       read-back4-by rowRule rule rows w h (packed samples 0 (w * h)) sizes (λ flat. packed-no-ones samples (w * h)) rest widest highest out store enough .pixels k l
       ∙ ap rule (packed-bytes samples (w * h) k l)
 
-  pub read-back-by : PixelsBack rule → (w h : ℕ) (samples : List Float) → Sizes w h → AllInRange samples (w * h) → ComesBack rowRule rule w h samples
-  read-back-by pixels w h samples sizes all rest widest highest out store enough =
+  pub read-back-by : (range : ℕ → Type 0) → PixelsBack range rule → (w h : ℕ) (samples : List Float) → Sizes w h → AllInRange range samples (w * h) → ComesBack rowRule rule w h samples
+  read-back-by range pixels w h samples sizes all rest widest highest out store enough =
       let back = read-back4-by rowRule rule rows w h (packed samples 0 (w * h)) sizes (λ flat. packed-no-ones samples (w * h)) rest widest highest out store enough in
       let is = pixels-back-by w h samples sizes rest widest highest out store enough in
       record {
@@ -113,22 +114,22 @@ module _ (rowRule : RowRule) (rule : SampleRule) (rows : RowsBack rowRule) where
         beyond = back .beyond;
       }
 
--- ---- The crate reading
+-- ---- Either reading
 
-pub crate-pixels : PixelsBack cratePixel
-unfolding cratePixel
-crate-pixels = record {
-  kept = λ p n range lies. kept-at-a-pixel p range n lies;
-  black = λ p e. black-back p (subst (λ (v : ℕ). v ≤ dark) (sym e) zero-le);
+pub reading-pixels : (reading : Reading) → PixelsBack (rangeOf reading) (pixelBy reading)
+unfolding pixelBy
+reading-pixels reading = record {
+  kept = λ p n range lies. kept-at-a-pixel reading p n range lies;
+  black = λ p e. black-back reading p (subst (λ (v : ℕ). v ≤ dark) (sym e) zero-le);
 }
 
-pub read-back4 : (w h : ℕ) (px : List ℕ) → Sizes w h → NoOnes px w (w * h) → ComesBack4 crateRow cratePixel w h px
-read-back4 = read-back4-by crateRow cratePixel crate-row-back
+pub read-back4 : (reading : Reading) (w h : ℕ) (px : List ℕ) → Sizes w h → NoOnes px w (w * h) → ComesBack4 (rowOf reading) (pixelBy reading) w h px
+read-back4 reading = read-back4-by (rowOf reading) (pixelBy reading) (reading-row-back reading)
 
-pub pixels-back : (w h : ℕ) (samples : List Float) → Sizes w h → (rest : List ℕ) (widest highest : ℕ) (out : List Float) (store : List ℕ) → Enough w h widest highest out store
-    → (k : ℕ) → k < w * h → pixel (readBy crateRow cratePixel (fileOf samples w h ++ rest) widest highest out store .1) k ≡ pixelOf crateUnits (bytesOf (pixel samples k))
-unfolding cratePixel
-pixels-back = pixels-back-by crateRow cratePixel crate-row-back
+pub pixels-back : (reading : Reading) (w h : ℕ) (samples : List Float) → Sizes w h → (rest : List ℕ) (widest highest : ℕ) (out : List Float) (store : List ℕ) → Enough w h widest highest out store
+    → (k : ℕ) → k < w * h → pixel (readOf reading (fileOf samples w h ++ rest) widest highest out store .1) k ≡ pixelOf (unitsOf reading) (bytesOf (pixel samples k))
+unfolding pixelBy
+pixels-back reading = pixels-back-by (rowOf reading) (pixelBy reading) (reading-row-back reading)
 
-pub read-back : (w h : ℕ) (samples : List Float) → Sizes w h → AllInRange samples (w * h) → ComesBack crateRow cratePixel w h samples
-read-back = read-back-by crateRow cratePixel crate-row-back crate-pixels
+pub read-back : (reading : Reading) (w h : ℕ) (samples : List Float) → Sizes w h → AllInRange (rangeOf reading) samples (w * h) → ComesBack (rowOf reading) (pixelBy reading) w h samples
+read-back reading = read-back-by (rowOf reading) (pixelBy reading) (reading-row-back reading) (rangeOf reading) (reading-pixels reading)

@@ -15,12 +15,14 @@ use Rattle.steps.specs.Answer.{Answer}
 use Rattle.steps.proofs.Laws.Answer.{Passed}
 use Rattle.pixel.specs.declared.Pixel.{Pixel}
 use Rattle.pixel.specs.Rgbe.{peak, tooBright}
-use Rattle.loss.specs.Kept.{Between}
+use Rattle.steps.specs.declared.Reading.{Reading}
+use Rattle.steps.specs.declared.Reading.the-variants.{Crate, Document}
+use Rattle.loss.specs.Kept.{rangeOf}
 use Rattle.header.specs.declared.Head.{Head}
-use Rattle.rows_read.specs.Row.{RowRule, crateRow}
-use Rattle.back.proofs.Laws.Row.{RowsBack, crate-row-back}
+use Rattle.rows_read.specs.Row.{RowRule, rowOf}
+use Rattle.back.proofs.Laws.Row.{RowsBack, reading-row-back}
 use Rattle.reader.specs.Samples.{SampleRule}
-use Rattle.reader.specs.Read.{cratePixel, readBy, paperOf, ReadPromiseBy}
+use Rattle.reader.specs.Read.{pixelBy, readBy, paperOf, ReadPromiseBy}
 use Rattle.reader.specs.declared.ReadAnswer.{ReadAnswer}
 use Rattle.frames_written.specs.Samples.{firstBright}
 use Rattle.frames_written.specs.Frame.{frameOf, fileOf}
@@ -28,7 +30,7 @@ use Rattle.frames_written.proofs.Laws.Samples.{each-none}
 use Rattle.writer.specs.Write.{frameChecks, brightChecked, stored, writeOf}
 use Rattle.writer.proofs.Laws.Told.{Stored, write-told, write4-told}
 use Rattle.kept.specs.Back.{pixel, Sizes, AllInRange, NoOnes, ReadBack, ReadBack4, CallsComeBack, CallsComeBack4, IsWritten}
-use Rattle.kept.proofs.Laws.Back.{PixelsBack, crate-pixels, read-back-by, read-back4-by}
+use Rattle.kept.proofs.Laws.Back.{PixelsBack, reading-pixels, read-back-by, read-back4-by}
 
 -- ---- The sizes of a frame that was written
 
@@ -53,11 +55,11 @@ module _ (rowRule : RowRule) (rule : SampleRule) where
         (subst (λ (m : ℕ). P m (readBy rowRule rule (file ++ rest) widest highest out store)) (sym (wrote .size)) p)
 
   module _ (rows : RowsBack rowRule) where
-    pub calls-back-by : PixelsBack rule → (w h : ℕ) (samples : List Float) → AllInRange samples (w * h) → CallsComeBack rowRule rule w h samples
-    calls-back-by pixels w h samples all lent left n wrote rest widest highest out out′ store store′ answer enough read =
+    pub calls-back-by : (range : ℕ → Type 0) → PixelsBack range rule → (w h : ℕ) (samples : List Float) → AllInRange range samples (w * h) → CallsComeBack rowRule rule w h samples
+    calls-back-by range pixels w h samples all lent left n wrote rest widest highest out out′ store store′ answer enough read =
         let told = write-told w h n samples lent left (sym wrote) in
         by-calls (fileOf samples w h) lent left n (told .2) rest widest highest out out′ store store′ answer read (λ m z. ReadBack w h m samples out (z .0) (z .1))
-        (read-back-by rowRule rule rows pixels w h samples (sizes-passed w h (length samples) 3 (told .0)) all rest widest highest out store enough)
+        (read-back-by rowRule rule rows range pixels w h samples (sizes-passed w h (length samples) 3 (told .0)) all rest widest highest out store enough)
 
     pub calls-back4-by : (w h : ℕ) (px : List ℕ) → NoOnes px w (w * h) → CallsComeBack4 rowRule rule w h px
     calls-back4-by w h px none lent left n wrote rest widest highest out out′ store store′ answer enough read =
@@ -65,32 +67,34 @@ module _ (rowRule : RowRule) (rule : SampleRule) where
         by-calls (frameOf px w h) lent left n (told .2) rest widest highest out out′ store store′ answer read (λ m z. ReadBack4 rule w h m px out (z .0) (z .1))
         (read-back4-by rowRule rule rows w h px (sizes-passed w h (length px) 4 (told .0)) none rest widest highest out store enough)
 
--- by the crate reading: `reader::read`
-pub calls-back : (w h : ℕ) (samples : List Float) → AllInRange samples (w * h) → CallsComeBack crateRow cratePixel w h samples
-calls-back = calls-back-by crateRow cratePixel crate-row-back crate-pixels
+-- by either reading: `reader::read`
+pub calls-back : (reading : Reading) (w h : ℕ) (samples : List Float) → AllInRange (rangeOf reading) samples (w * h) → CallsComeBack (rowOf reading) (pixelBy reading) w h samples
+calls-back reading = calls-back-by (rowOf reading) (pixelBy reading) (reading-row-back reading) (rangeOf reading) (reading-pixels reading)
 
-pub calls-back4 : (w h : ℕ) (px : List ℕ) → NoOnes px w (w * h) → CallsComeBack4 crateRow cratePixel w h px
-calls-back4 = calls-back4-by crateRow cratePixel crate-row-back
+pub calls-back4 : (reading : Reading) (w h : ℕ) (px : List ℕ) → NoOnes px w (w * h) → CallsComeBack4 (rowOf reading) (pixelBy reading) w h px
+calls-back4 reading = calls-back4-by (rowOf reading) (pixelBy reading) (reading-row-back reading)
 
 -- ---- A frame in range is written: no pixel of it is too bright
 
-not-bright : (p : Pixel) → Between (peak p) → tooBright p ≡ false
+range-below : (reading : Reading) (v : ℕ) → rangeOf reading v → v < 2 ^ 276
+range-below Crate v = ⊎-elim (λ z. subst (λ (v : ℕ). v < 2 ^ 276) (sym z) (lit< tt)) (λ l. lt-of-lt-of-le (l .1) (lit≤ {m = 2 ^ 180} {n = 2 ^ 276} tt))
+range-below Document v = ⊎-elim (λ z. subst (λ (v : ℕ). v < 2 ^ 276) (sym z) (lit< tt)) (λ l. l .1)
+
+not-bright : (reading : Reading) (p : Pixel) → rangeOf reading (peak p) → tooBright p ≡ false
 unfolding tooBright
-not-bright p b =
-    lt-leb (2 ^ 276) (peak p)
-    (⊎-elim (λ z. subst (λ (v : ℕ). v < 2 ^ 276) (sym z) (lit< tt)) (λ l. lt-of-lt-of-le (l .1) (lit≤ {m = 2 ^ 180} {n = 2 ^ 276} tt)) b)
+not-bright reading p range = lt-leb (2 ^ 276) (peak p) (range-below reading (peak p) range)
 
-in-range-passes : (samples : List Float) (n : ℕ) → AllInRange samples n → firstBright samples 0 n ≡ n
-in-range-passes samples n all = each-none samples 0 n (λ k l. rw (zero-add (3 * k)) (not-bright (pixel samples k) (all k l .largest)))
+in-range-passes : (reading : Reading) (samples : List Float) (n : ℕ) → AllInRange (rangeOf reading) samples n → firstBright samples 0 n ≡ n
+in-range-passes reading samples n all = each-none samples 0 n (λ k l. rw (zero-add (3 * k)) (not-bright reading (pixel samples k) (all k l .largest)))
 
-pub in-range-written : (w h : ℕ) (samples : List Float) → Sizes w h → length samples ≡ 3 * (w * h) → AllInRange samples (w * h) → IsWritten w h samples
+pub in-range-written : (reading : Reading) (w h : ℕ) (samples : List Float) → Sizes w h → length samples ≡ 3 * (w * h) → AllInRange (rangeOf reading) samples (w * h) → IsWritten w h samples
 unfolding writeOf brightChecked stored
-in-range-written w h samples sizes count all out room =
+in-range-written reading w h samples sizes count all out room =
     simp (
       ne-eqb w 0 (λ e. omega arith),
       le-ltb 65535 w (sizes .wide),
       le-ltb 65535 h (sizes .high),
       eq-eqb (length samples) (3 * (w * h)) count,
-      le-ltb (firstBright samples 0 (w * h)) (w * h) (omega (arith, in-range-passes samples (w * h) all)),
+      le-ltb (firstBright samples 0 (w * h)) (w * h) (omega (arith, in-range-passes reading samples (w * h) all)),
       le-ltb (length out) (length (fileOf samples w h)) room,
     )

@@ -18,8 +18,10 @@ use Rattle.steps.proofs.Laws.Turns.{Leads, Falls}
 use Rattle.pixel.specs.declared.Pixel.{Pixel}
 use Rattle.pixel.specs.declared.Rgbe.{Rgbe}
 use Rattle.pixel.specs.Units.{ofUnits}
-use Rattle.pixel.specs.Rgbe.{crateScale, crateUnits, rgbeAt}
-use Rattle.pixel.proofs.Laws.Scales.{crate-none}
+use Rattle.steps.specs.declared.Reading.{Reading}
+use Rattle.steps.specs.declared.Reading.the-variants.{Crate}
+use Rattle.pixel.specs.Rgbe.{scaleOf, unitsOf, rgbeAt}
+use Rattle.pixel.proofs.Laws.Scales.{scale-none}
 use Rattle.loss.specs.Kept.{zeros}
 use Rattle.header.specs.declared.HeadAnswer.the-variants.{Read}
 use Rattle.header.specs.Head.{taking}
@@ -28,7 +30,7 @@ use Rattle.rows_read.specs.Cut.{behind}
 use Rattle.rows_read.proofs.Laws.Cut.{cutStore, cut-row, cut-exponents}
 use Rattle.reader.specs.Samples.{SampleRule, three, placed}
 use Rattle.reader.specs.Frame.{Stored, along, storedOf, cleared, stepOf, Rows, Left, rowTurn, noRows, rowsOf}
-use Rattle.reader.specs.Read.{cratePixel, framed, readBy}
+use Rattle.reader.specs.Read.{pixelBy, cratePixel, framed, readBy}
 use Rattle.reader.proofs.Laws.Frame.{row-room, went-on, rows-start, rows-cases, rows-again, rows-done}
 use Rattle.reader.proofs.Laws.Read.{frame-rows, read-frame}
 use Rattle.frames_written.specs.Samples.{pixelAt}
@@ -78,11 +80,11 @@ module _ (bytes : List ℕ) (widest highest : ℕ) (out : List Float) (store : L
 
 -- ---- A pixel whose exponent byte is 0 is black
 
-pub no-exponent : (q : Rgbe) → q .e ≡ 0 → cratePixel q ≡ zeros
-unfolding cratePixel crateUnits
-no-exponent q e =
-    let none : crateScale (q .e) ≡ 0 = crate-none (q .e) (omega arith) in
-    let zero-at : (m : ℕ) → m * crateScale (q .e) ≡ 0 = λ m. ap (λ (z : ℕ). m * z) none ∙ mul-zero m in
+pub no-exponent : (reading : Reading) (q : Rgbe) → q .e ≡ 0 → pixelBy reading q ≡ zeros
+unfolding pixelBy unitsOf
+no-exponent reading q e =
+    let none : scaleOf reading (q .e) ≡ 0 = scale-none reading (q .e) (omega arith) in
+    let zero-at : (m : ℕ) → m * scaleOf reading (q .e) ≡ 0 = λ m. ap (λ (z : ℕ). m * z) none ∙ mul-zero m in
     λ t. record { r = ofUnits (zero-at (q .r) t); g = ofUnits (zero-at (q .g) t); b = ofUnits (zero-at (q .b) t) }
 
 -- ---- The pixels of the last row in the output
@@ -159,4 +161,4 @@ module _ (bytes : List ℕ) (widest highest : ℕ) (out : List Float) (store : L
 
   -- those whose exponents are missing are black
   pub cut-black : c .cut .end .done + behind bytes (c .cut .end) ≤ i → pixel (lastOut bytes widest highest out store c) (c .last .row * c .head .width + i) ≡ zeros
-  cut-black l = cut-pixel ∙ no-exponent (rgbeAt (lastStore bytes widest highest out store c) (4 * i)) (cut-exponents bytes (c .last .at) (c .last .store) (c .head .width) (c .cut) i l h)
+  cut-black l = cut-pixel ∙ no-exponent Crate (rgbeAt (lastStore bytes widest highest out store c) (4 * i)) (cut-exponents bytes (c .last .at) (c .last .store) (c .head .width) (c .cut) i l h)

@@ -1,4 +1,4 @@
--- Every refusal has a number of the table, over what the calls promise: 1 to 9 and 25 where a file is read, 7 to 13 where one is written.
+-- Every refusal has a number of the table, over what the calls promise: 1 to 9 where a file is read, and 25 in the crate reading and 14 in the document reading, 7 to 13 where one is written.
 use Prim.{Unit}
 use Prim.Native.Nat.{ℕ, _*_, _≤_}
 use mathlib.Core.List.{List, [], _∷_, _++_}
@@ -15,9 +15,10 @@ use Rattle.steps.proofs.Laws.Turns.{by-test}
 use Rattle.header.specs.declared.Head.{Head}
 use Rattle.header.specs.Head.{headChecks, fieldsOf, headOf, headerOf, HeaderPromise}
 use Rattle.header.specs.declared.HeadAnswer.the-variants as header
-use Rattle.rows_read.specs.Row.{crateRow, CrateFault}
+use Rattle.steps.specs.declared.Reading.{Reading}
+use Rattle.rows_read.specs.Row.{rowOf, RowFault}
 use Rattle.reader.specs.Frame.{storedOf, cleared, rowsOf}
-use Rattle.reader.specs.Read.{frameChecks, cratePixel, answerOf, framed, readBy, ReadPromise}
+use Rattle.reader.specs.Read.{frameChecks, pixelBy, answerOf, framed, readBy, ReadPromise}
 use Rattle.reader.specs.declared.ReadAnswer.the-variants as read
 use Rattle.reader.proofs.Laws.Read.{rows-number}
 use Rattle.frames_written.specs.Samples.{firstBright}
@@ -31,8 +32,8 @@ abbrev pub Within : ℕ → ℕ → ℕ → Type 0
 Within low high n = (low ≤ n) × (n ≤ high)
 
 -- one of those where a file is read
-abbrev pub ReadNumber : ℕ → Type 0
-ReadNumber n = Within 1 8 n ⊎ CrateFault n
+abbrev pub ReadNumber : Reading → ℕ → Type 0
+ReadNumber reading n = Within 1 8 n ⊎ RowFault reading n
 
 module _ (N : ℕ → Type 0) where
   -- the numbers of all checks are among those
@@ -67,21 +68,21 @@ header-known bytes widest highest refusal promise =
     ((lit≤ tt, lit≤ tt), ((lit≤ tt, lit≤ tt), ((lit≤ tt, lit≤ tt), ((lit≤ tt, lit≤ tt), ((lit≤ tt, lit≤ tt), tt))))) (λ n. refl) (known-done (Within 1 5) (headOf (fieldsOf bytes))))
     (refusal .number) (refusal .place) refl
 
-rows-known : (head : Head) (a : Answer ℕ) → ((number row : ℕ) → a ≡ refused number row → CrateFault number) → Known ReadNumber (answerOf head a)
-rows-known head (done at) faults = known-done ReadNumber _
-rows-known head (refused number row) faults = known-refused ReadNumber number row (inr (faults number row refl))
+rows-known : (reading : Reading) (head : Head) (a : Answer ℕ) → ((number row : ℕ) → a ≡ refused number row → RowFault reading number) → Known (ReadNumber reading) (answerOf head a)
+rows-known reading head (done at) faults = known-done (ReadNumber reading) _
+rows-known reading head (refused number row) faults = known-refused (ReadNumber reading) number row (inr (faults number row refl))
 
-pub read-known : (bytes : List ℕ) (widest highest : ℕ) (out out′ : List Float) (store store′ : List ℕ) (refusal : Refusal)
-    → ReadPromise bytes widest highest out store (read.Refused refusal) out′ store′ → ReadNumber (refusal .number)
+pub read-known : (reading : Reading) (bytes : List ℕ) (widest highest : ℕ) (out out′ : List Float) (store store′ : List ℕ) (refusal : Refusal)
+    → ReadPromise reading bytes widest highest out store (read.Refused refusal) out′ store′ → ReadNumber reading (refusal .number)
 unfolding readBy headChecks
-read-known bytes widest highest out out′ store store′ refusal promise =
+read-known reading bytes widest highest out out′ store store′ refusal promise =
     let head = headOf (fieldsOf bytes) in
-    let rows = rowsOf crateRow cratePixel bytes (storedOf head) (head .taken) out (cleared (storedOf head .long) store) in
-    subst (λ (z : Answer Head × List Float × List ℕ). Known ReadNumber (z .0)) (sym promise)
-    (known-checked ReadNumber (λ (z : Answer Head × List Float × List ℕ). z .0) (λ n. (refuse n, out, store)) (headChecks bytes widest highest ++ frameChecks head out store) (framed head rows)
+    let rows = rowsOf (rowOf reading) (pixelBy reading) bytes (storedOf head) (head .taken) out (cleared (storedOf head .long) store) in
+    subst (λ (z : Answer Head × List Float × List ℕ). Known (ReadNumber reading) (z .0)) (sym promise)
+    (known-checked (ReadNumber reading) (λ (z : Answer Head × List Float × List ℕ). z .0) (λ n. (refuse n, out, store)) (headChecks bytes widest highest ++ frameChecks head out store) (framed head rows)
     (inl (lit≤ tt, lit≤ tt), (inl (lit≤ tt, lit≤ tt), (inl (lit≤ tt, lit≤ tt), (inl (lit≤ tt, lit≤ tt), (inl (lit≤ tt, lit≤ tt), (inl (lit≤ tt, lit≤ tt), (inl (lit≤ tt, lit≤ tt), (inl (lit≤ tt, lit≤ tt), tt))))))))
     (λ n. refl)
-    (rows-known head (rows .0) (λ number row e. rows-number cratePixel bytes (storedOf head) (head .taken) out (cleared (storedOf head .long) store) number row e)))
+    (rows-known reading head (rows .0) (λ number row e. rows-number reading (pixelBy reading) bytes (storedOf head) (head .taken) out (cleared (storedOf head .long) store) number row e)))
     (refusal .number) (refusal .place) refl
 
 -- ---- Writing

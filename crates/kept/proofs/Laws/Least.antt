@@ -22,11 +22,12 @@ use Rattle.channels_read.specs.Channel.{Chan, channelOf, channelOut, channelTur
 use Rattle.channels_read.specs.Channels.{Chans, channelsOf, chansOut, chansTurn}
 use Rattle.channels_read.proofs.Laws.Channel.{length-run, length-literals, taken-run, taken-literals, channel-cases}
 use Rattle.channels_read.proofs.Laws.Channels.{chans-cases}
+use Rattle.steps.specs.declared.Reading.the-variants.{Crate}
 use Rattle.flat_read.specs.Flat.{crateFlat, flatOf}
 use Rattle.flat_read.proofs.Laws.Flat.{crate-plain}
-use Rattle.rows_read.specs.Row.{crateParts, crateRow, crateStart, isFlatWidth, kindOf, restBy, rowBy}
+use Rattle.rows_read.specs.Row.{partsOf, rowOf, crateRow, crateStart, isFlatWidth, kindOf, restBy, rowBy}
 use Rattle.rows_read.proofs.Laws.Row.{kind-cases, not-flat}
-use Rattle.rows_read.proofs.Laws.Bounds.{crate-sound}
+use Rattle.rows_read.proofs.Laws.Bounds.{reading-sound}
 use Rattle.reader.specs.Samples.{SampleRule}
 use Rattle.reader.specs.Frame.{Stored, storedOf, cleared, stepOf, Rows, Left, rowTurn, noRows, rowsOf}
 use Rattle.reader.specs.Read.{readBy}
@@ -92,6 +93,7 @@ module _ (src : List ℕ) (bytes : AreBytes src) where
           let m : min (spanLength c) (width - x .done) ≡ n = cc in
           (omega arith, count-more src at (x .at) (x .done) c n (p .1) l (bytes (x .at)) (omega arith)))
           (λ number d l e. coded-fault)
+          (λ n d l e. coded-fault)
           (λ d l. coded-fault)
           (λ d. record {
             upto = λ next e. let f : x .at ≡ next = cc in
@@ -135,7 +137,7 @@ module _ (src : List ℕ) (bytes : AreBytes src) where
 -- a row that is flat by its width takes four bytes for each pixel; another takes those of a coded one at least, or one less where the input ends
 row-took : (src : List ℕ) → AreBytes src → (at : ℕ) (store : List ℕ) (width : ℕ)
     → (isFlatWidth width ≡ true → Took (at + 4 * width) (crateRow src at store width)) × (isFlatWidth width ≡ false → Coded src at (codedLeast width) (crateRow src at store width))
-unfolding crateRow rowBy crateParts
+unfolding rowOf rowBy partsOf
 row-took src bytes at store width =
     by-test (λ (a : Taken × List ℕ). (isFlatWidth width ≡ true → Took (at + 4 * width) a) × (isFlatWidth width ≡ false → Coded src at (codedLeast width) a)) (isFlatWidth width)
     (λ t. (λ _. flat-took src at store 0 width, λ f. absurd (false≢true (sym f ∙ t))))
@@ -144,20 +146,20 @@ row-took src bytes at store width =
     s : List ℕ
     s = crateStart src at store
 
-    coded : 8 ≤ width → Coded src at (codedLeast width) (restBy crateParts src at width (kindOf src at) s)
+    coded : 8 ≤ width → Coded src at (codedLeast width) (restBy (partsOf Crate) src at width (kindOf src at) s)
     coded w =
-        kind-cases src at (λ z. Coded src at (codedLeast width) (restBy crateParts src at width z s)) coded-fault
+        kind-cases src at (λ z. Coded src at (codedLeast width) (restBy (partsOf Crate) src at width z s)) coded-fault
         (λ h e. record { upto = λ next f. let r = flat-took src at s 0 width .upto next f in (h, omega (arith, r), λ l. omega (arith, r)) })
         (λ h e m. record { upto = λ next f. let r = channels-took src bytes (at + 4) s width w .upto next f in (omega arith, omega (arith, r .1), λ l. omega (arith, r .2 l)) })
         (λ h e m. record { upto = λ next f. let r = flat-took src (at + 4) s 4 (width - 1) .upto next f in (omega arith, omega (arith, r), λ l. omega (arith, r)) })
 
 -- where there are pixels, a row that is done has its first byte
 pub row-some : (src : List ℕ) (at : ℕ) (store : List ℕ) (width next : ℕ) → 0 < width → at ≤ length src → crateRow src at store width .0 ≡ Done next → at < length src
-unfolding crateRow rowBy crateParts
+unfolding rowOf rowBy partsOf
 row-some src at store width next w inside =
     by-test (λ (a : Taken × List ℕ). a .0 ≡ Done next → at < length src) (isFlatWidth width)
     (λ t e. omega (arith, crate-plain src at store 0 width .upto next e .0, crate-plain src at store 0 width .upto next e .1 w))
-    (λ t. kind-cases src at (λ z. restBy crateParts src at width z (crateStart src at store) .0 ≡ Done next → at < length src)
+    (λ t. kind-cases src at (λ z. restBy (partsOf Crate) src at width z (crateStart src at store) .0 ≡ Done next → at < length src)
     (λ e. never-both next 9 (sym e)) (λ h f e. h) (λ h f m e. omega arith) (λ h f m e. omega arith))
 
 -- ---- The rows of a file
@@ -179,7 +181,7 @@ module _ (rule : SampleRule) (bytes : List ℕ) (are : AreBytes bytes) (stored :
   read-row x next o s e = ap (λ (z : Taken × List ℕ). z .0) (sym (went-on crateRow rule (stored .long) (stored .place (x .row)) bytes (x .at) (x .out) o (x .store) s next e .0))
 
   on : (x : Rows) (next : ℕ) → x .at ≤ length bytes → crateRow bytes (x .at) (x .store) (stored .long) .0 ≡ Done next → (x .at ≤ next) × (next ≤ length bytes)
-  on x next h e = crate-sound bytes (x .at) (x .store) (stored .long) .onward next e h
+  on x next h e = reading-sound Crate bytes (x .at) (x .store) (stored .long) .onward next e h
 
   flat-rows : isFlatWidth (stored .long) ≡ true → Ends bytes (at + stored .count * (4 * stored .long)) (rowsOf crateRow rule bytes stored at out store)
   unfolding rowsOf

@@ -23,13 +23,14 @@ use Rattle.steps.proofs.Laws.Place.{length-spread}
 use Rattle.pixel.specs.declared.Pixel.{Pixel}
 use Rattle.header.specs.declared.Head.{Head}
 use Rattle.header.specs.Head.{headChecks, fieldsOf, headOf, taking}
-use Rattle.rows_read.specs.Row.{RowRule, crateRow}
+use Rattle.steps.specs.declared.Reading.{Reading}
+use Rattle.rows_read.specs.Row.{RowRule, rowOf}
 use Rattle.rows_read.proofs.Laws.Kept.{Kept, kept-same, kept-then, kept-spread}
-use Rattle.rows_read.proofs.Laws.Bounds.{SoundRow, crate-sound}
+use Rattle.rows_read.proofs.Laws.Bounds.{SoundRow, reading-sound}
 use Rattle.pixel.specs.Rgbe.{rgbeAt}
 use Rattle.reader.specs.Samples.{SampleRule, three, placed}
 use Rattle.reader.specs.Frame.{Stored, storedOf, cleared, stepOf, Left, rows, rowTurn, noRows, rowsOf}
-use Rattle.reader.specs.Read.{frameChecks, answerOf, framed, cratePixel, readBy}
+use Rattle.reader.specs.Read.{frameChecks, answerOf, framed, pixelBy, readBy, readOf}
 use Rattle.reader.proofs.Laws.Frame.{faulted, went-on, rows-start, rows-done, rows-fault, rows-again}
 use Rattle.kept.specs.Back.{pixel, Beyond}
 use Rattle.kept.specs.Lent.{onward, before, rowAt, Stand, RowsRead, RowsLeft, FrameLeft, earlyChecks, ReadLeft}
@@ -325,28 +326,28 @@ module _ (rowRule : RowRule) (rule : SampleRule) (bytes : List ℕ) (widest high
     later = λ none. ⊎-elim (λ f. absurd (none (f .0) (f .1))) (λ p. (left, by-rows p, frame-left sound p)) (fails-or-passed (earlyChecks bytes widest highest out store));
   }
 
--- ---- The crate reading
+-- ---- Either reading
 
-pub lent-left : (bytes : List ℕ) (widest highest : ℕ) (out : List Float) (store : List ℕ) → ReadLeft crateRow cratePixel bytes widest highest out store
-lent-left bytes widest highest out store = lent-left-by crateRow cratePixel bytes widest highest out store crate-sound
+pub lent-left : (reading : Reading) (bytes : List ℕ) (widest highest : ℕ) (out : List Float) (store : List ℕ) → ReadLeft (rowOf reading) (pixelBy reading) bytes widest highest out store
+lent-left reading bytes widest highest out store = lent-left-by (rowOf reading) (pixelBy reading) bytes widest highest out store (reading-sound reading)
 
 -- a read that is done leaves everything beyond the frame's samples as lent
-pub lent-done : (bytes : List ℕ) (widest highest : ℕ) (out : List Float) (store : List ℕ) (head : Head) → readBy crateRow cratePixel bytes widest highest out store .0 ≡ done head
-    → Beyond (3 * (head .width * head .height)) out (readBy crateRow cratePixel bytes widest highest out store .1)
-lent-done bytes widest highest out store head e =
+pub lent-done : (reading : Reading) (bytes : List ℕ) (widest highest : ℕ) (out : List Float) (store : List ℕ) (head : Head) → readOf reading bytes widest highest out store .0 ≡ done head
+    → Beyond (3 * (head .width * head .height)) out (readOf reading bytes widest highest out store .1)
+lent-done reading bytes widest highest out store head e =
     ⊎-elim
-    (λ f. absurd (differ head (f .0) 0 (sym e ∙ ap (λ (z : Answer Head × List Float × List ℕ). z .0) (at-once crateRow cratePixel bytes widest highest out store (f .0) (f .1)))))
-    (λ p. let is = by-rows crateRow cratePixel bytes widest highest out store p in
-    let z : Left = left crateRow cratePixel bytes widest highest out store in
+    (λ f. absurd (differ head (f .0) 0 (sym e ∙ ap (λ (z : Answer Head × List Float × List ℕ). z .0) (at-once (rowOf reading) (pixelBy reading) bytes widest highest out store (f .0) (f .1)))))
+    (λ p. let is = by-rows (rowOf reading) (pixelBy reading) bytes widest highest out store p in
+    let z : Left = left (rowOf reading) (pixelBy reading) bytes widest highest out store in
     subst (Beyond (3 * (head .width * head .height)) out) (sym (ap (λ (z : Answer Head × List Float × List ℕ). z .1) is))
-    (by-answer (headOf (fieldsOf bytes)) (z .0) (z .1) (z .2) (sym (ap (λ (z : Answer Head × List Float × List ℕ). z .0) is) ∙ e) (frame-left crateRow cratePixel bytes widest highest out store crate-sound p .rows)))
+    (by-answer (headOf (fieldsOf bytes)) (z .0) (z .1) (z .2) (sym (ap (λ (z : Answer Head × List Float × List ℕ). z .0) is) ∙ e) (frame-left (rowOf reading) (pixelBy reading) bytes widest highest out store (reading-sound reading) p .rows)))
     (fails-or-passed (earlyChecks bytes widest highest out store))
   where
     by-answer : (h : Head) (a : Answer ℕ) (o : List Float) (s : List ℕ) → answerOf h a ≡ done head
-        → RowsLeft crateRow cratePixel bytes (storedOf h) (h .taken) out (cleared (storedOf h .long) store) a o s → Beyond (3 * (head .width * head .height)) out o
+        → RowsLeft (rowOf reading) (pixelBy reading) bytes (storedOf h) (h .taken) out (cleared (storedOf h .long) store) a o s → Beyond (3 * (head .width * head .height)) out o
     by-answer h (done next) o s e left =
         let same : taking h next ≡ head = cc in
         let area : h .height * h .width ≡ head .width * head .height = mul-comm (h .height) (h .width) ∙ ap (λ (x : Head). x .width * x .height) same in
         subst (λ (n : ℕ). Beyond (3 * n) out o) area
-        (stand-beyond cratePixel (storedOf h) _ (h .height) (h .height * h .width) out o (left .0 .stand) (λ k i l j. row-under k (h .height) (h .width) i l j))
+        (stand-beyond (pixelBy reading) (storedOf h) _ (h .height) (h .height * h .width) out o (left .0 .stand) (λ k i l j. row-under k (h .height) (h .width) i l j))
     by-answer h (refused n k) o s e left = absurd (differ head n k (sym e))

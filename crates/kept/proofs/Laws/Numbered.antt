@@ -13,10 +13,11 @@ use Rattle.steps.specs.Numbered.{numberOf, firstOf, Exactly}
 use Rattle.steps.proofs.Laws.Numbered.{number-checked, first-append, exactly, checked-of}
 use Rattle.header.specs.declared.Head.{Head}
 use Rattle.header.specs.Head.{headChecks, headerOf, fieldsOf, headOf}
-use Rattle.rows_read.specs.Row.{RowRule, crateRow, CrateFault}
+use Rattle.steps.specs.declared.Reading.{Reading}
+use Rattle.rows_read.specs.Row.{RowRule, rowOf, RowFault}
 use Rattle.reader.specs.Samples.{SampleRule}
 use Rattle.reader.specs.Frame.{Stored, storedOf, cleared, rowsOf, faultOf}
-use Rattle.reader.specs.Read.{frameChecks, answerOf, framed, cratePixel, readBy}
+use Rattle.reader.specs.Read.{frameChecks, answerOf, framed, pixelBy, readBy, readOf}
 use Rattle.reader.proofs.Laws.Read.{rows-number}
 use Rattle.frames_written.specs.Samples.{firstBright}
 use Rattle.frames_written.specs.Frame.{frameOf, worstOf, fileOf}
@@ -59,16 +60,16 @@ module _ (rowRule : RowRule) (rule : SampleRule) (bytes : List ℕ) (widest high
   read-numbered-by = exactly (readChecks rowRule rule bytes widest highest out store) _ read-number
 
 -- `reader::read`: 1 to 8, and the number of a row
-pub read-numbered : (bytes : List ℕ) (widest highest : ℕ) (out : List Float) (store : List ℕ)
-    → Exactly (readChecks crateRow cratePixel bytes widest highest out store) (numberOf (readBy crateRow cratePixel bytes widest highest out store .0))
-read-numbered = read-numbered-by crateRow cratePixel
+pub read-numbered : (reading : Reading) (bytes : List ℕ) (widest highest : ℕ) (out : List Float) (store : List ℕ)
+    → Exactly (readChecks (rowOf reading) (pixelBy reading) bytes widest highest out store) (numberOf (readOf reading bytes widest highest out store .0))
+read-numbered reading = read-numbered-by (rowOf reading) (pixelBy reading)
 
--- the check of the crate's rows is 9 or 25 where it fails
-pub fault-known : (rule : SampleRule) (bytes : List ℕ) (stored : Stored) (at : ℕ) (out : List Float) (store : List ℕ)
-    → let fault = faultOf (rowsOf crateRow rule bytes stored at out store .0) in (fault ≡ check 0 false) ⊎ ((n : ℕ) × CrateFault n × (fault ≡ check n true))
-fault-known rule bytes stored at out store = by (rowsOf crateRow rule bytes stored at out store .0) (λ number row e. rows-number rule bytes stored at out store number row e)
+-- the check of a reading's rows is 9, or 25 or 14, where it fails
+pub fault-known : (reading : Reading) (rule : SampleRule) (bytes : List ℕ) (stored : Stored) (at : ℕ) (out : List Float) (store : List ℕ)
+    → let fault = faultOf (rowsOf (rowOf reading) rule bytes stored at out store .0) in (fault ≡ check 0 false) ⊎ ((n : ℕ) × RowFault reading n × (fault ≡ check n true))
+fault-known reading rule bytes stored at out store = by (rowsOf (rowOf reading) rule bytes stored at out store .0) (λ number row e. rows-number reading rule bytes stored at out store number row e)
   where
-    by : (a : Answer ℕ) → ((number row : ℕ) → a ≡ refused number row → CrateFault number) → (faultOf a ≡ check 0 false) ⊎ ((n : ℕ) × CrateFault n × (faultOf a ≡ check n true))
+    by : (a : Answer ℕ) → ((number row : ℕ) → a ≡ refused number row → RowFault reading number) → (faultOf a ≡ check 0 false) ⊎ ((n : ℕ) × RowFault reading n × (faultOf a ≡ check n true))
     by (done next) faults = inl refl
     by (refused number row) faults = inr (number, faults number row refl, refl)
 

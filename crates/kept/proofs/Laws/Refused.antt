@@ -1,4 +1,4 @@
--- A refusal changes no lent memory, over what the calls promise; 9 and 25 of the reader are the only ones that may.
+-- A refusal changes no lent memory, over what the calls promise; 9, and 25 or 14, of the reader are the only ones that may.
 use Prim.Native.Nat.{ℕ, _*_}
 use mathlib.Core.List.{List, [], _∷_, _++_}
 use mathlib.Core.Path.{_≡_, refl, sym, subst}
@@ -12,9 +12,10 @@ use Rattle.steps.proofs.Laws.Answer.{differ}
 use Rattle.steps.proofs.Laws.Turns.{by-test}
 use Rattle.header.specs.declared.Head.{Head}
 use Rattle.header.specs.Head.{headChecks, fieldsOf, headOf}
-use Rattle.rows_read.specs.Row.{crateRow, CrateFault}
+use Rattle.steps.specs.declared.Reading.{Reading}
+use Rattle.rows_read.specs.Row.{rowOf, RowFault}
 use Rattle.reader.specs.Frame.{storedOf, cleared, rowsOf}
-use Rattle.reader.specs.Read.{frameChecks, cratePixel, answerOf, framed, readBy, ReadPromise}
+use Rattle.reader.specs.Read.{frameChecks, pixelBy, answerOf, framed, readBy, readOf, ReadPromise}
 use Rattle.reader.specs.declared.ReadAnswer.the-variants as read
 use Rattle.reader.proofs.Laws.Read.{rows-number}
 use Rattle.frames_written.specs.Samples.{firstBright}
@@ -36,25 +37,25 @@ number-of e = cc
 abbrev Read : Type 0
 Read = Answer Head × List Float × List ℕ
 
-module _ (bytes : List ℕ) (widest highest : ℕ) (out : List Float) (store : List ℕ) where
+module _ (reading : Reading) (bytes : List ℕ) (widest highest : ℕ) (out : List Float) (store : List ℕ) where
   -- a refusal that is not a row's leaves both as they were
   abbrev Same : Read → Type 0
-  Same z = (n k : ℕ) → z .0 ≡ refused n k → (CrateFault n → ⊥) → (z .1 ≡ out) × (z .2 ≡ store)
+  Same z = (n k : ℕ) → z .0 ≡ refused n k → (RowFault reading n → ⊥) → (z .1 ≡ out) × (z .2 ≡ store)
 
-  by-rows : (head : Head) (a : Answer ℕ) (o : List Float) (s : List ℕ) → ((number row : ℕ) → a ≡ refused number row → CrateFault number) → Same (answerOf head a, o, s)
+  by-rows : (head : Head) (a : Answer ℕ) (o : List Float) (s : List ℕ) → ((number row : ℕ) → a ≡ refused number row → RowFault reading number) → Same (answerOf head a, o, s)
   by-rows head (done at) o s faults n k e not = absurd (differ _ n k e)
-  by-rows head (refused number row) o s faults n k e not = absurd (not (subst CrateFault (number-of e) (faults number row refl)))
+  by-rows head (refused number row) o s faults n k e not = absurd (not (subst (RowFault reading) (number-of e) (faults number row refl)))
 
-  same : Same (readBy crateRow cratePixel bytes widest highest out store)
+  same : Same (readOf reading bytes widest highest out store)
   unfolding readBy
   same =
       let head = headOf (fieldsOf bytes) in
-      let rows = rowsOf crateRow cratePixel bytes (storedOf head) (head .taken) out (cleared (storedOf head .long) store) in
+      let rows = rowsOf (rowOf reading) (pixelBy reading) bytes (storedOf head) (head .taken) out (cleared (storedOf head .long) store) in
       every Same (λ n. (refuse n, out, store)) (headChecks bytes widest highest ++ frameChecks head out store) (framed head rows) (λ m n k e not. (refl, refl))
-      (by-rows head (rows .0) (rows .1) (rows .2) (λ number row e. rows-number cratePixel bytes (storedOf head) (head .taken) out (cleared (storedOf head .long) store) number row e))
+      (by-rows head (rows .0) (rows .1) (rows .2) (λ number row e. rows-number reading (pixelBy reading) bytes (storedOf head) (head .taken) out (cleared (storedOf head .long) store) number row e))
 
-  pub read-refused-same : (refusal : Refusal) (out′ : List Float) (store′ : List ℕ) → ReadPromise bytes widest highest out store (read.Refused refusal) out′ store′
-      → (CrateFault (refusal .number) → ⊥) → (out′ ≡ out) × (store′ ≡ store)
+  pub read-refused-same : (refusal : Refusal) (out′ : List Float) (store′ : List ℕ) → ReadPromise reading bytes widest highest out store (read.Refused refusal) out′ store′
+      → (RowFault reading (refusal .number) → ⊥) → (out′ ≡ out) × (store′ ≡ store)
   read-refused-same refusal out′ store′ promise = subst Same (sym promise) same (refusal .number) (refusal .place) refl
 
 -- ---- The writer

@@ -11,6 +11,7 @@ use Rattle.pixel.specs.Units.{mag}
 use Rattle.pixel.specs.Rgbe.{crateUnits, pixelOf, peak, bytesOf}
 use Rattle.loss.specs.Kept.{Kept, Lies, step}
 use Rattle.loss.proofs.Laws.Sharp.{next-dark, too-bright}
+use Rattle.steps.specs.declared.Reading.the-variants.{Crate}
 use Rattle.rows_read.specs.Row.{crateRow}
 use Rattle.reader.specs.Read.{cratePixel}
 use Rattle.kept.specs.Back.{pixel, Sizes, Enough, ComesBack, nextBelow, firstAbove, oneRed, Lost}
@@ -42,7 +43,7 @@ enough = record { wide = lit≤ tt; high = lit≤ tt; room = lit≤ tt; row = li
 not-back : (x : Float) (back : Pixel) (n : ℕ) → pixelOf crateUnits (bytesOf (pixel (oneRed x) 0)) ≡ back → Lies (pixel (oneRed x) 0) n → (Kept (step n) x (back .r) → ⊥)
     → ComesBack crateRow cratePixel 1 1 (oneRed x) → ⊥
 not-back x back n is lies apart all =
-    let there = pixels-back 1 1 (oneRed x) one [] 1 1 lent store enough 0 (lit< tt) ∙ is in
+    let there = pixels-back Crate 1 1 (oneRed x) one [] 1 1 lent store enough 0 (lit< tt) ∙ is in
     apart (subst (λ (q : Pixel). Kept (step n) x (q .r)) there (all [] 1 1 lent store enough .kept 0 n (lit< tt) lies .r))
 
 next-below : Lost nextBelow

@@ -4,22 +4,22 @@ use lib.Ieee.{round, size}
 use Rattle.steps.specs.Loop.{run}
 use Rattle.steps.specs.Place.{bytesFrom, spread}
 use Rattle.pixel.specs.Units.{ofUnits, mag}
-use Rattle.pixel.specs.Rgbe.{crateShift, crateScale, crateUnits, peak, tooBright, bytesOf, packedOf}
+use Rattle.pixel.specs.Rgbe.{crateShift, scaleOf, unitsOf, peak, tooBright, bytesOf, packedOf}
 use Rattle.words.specs.Lines.{upTo, past, same, isFirst, lineTurn, linesEnd}
 use Rattle.words.specs.Fields.{isBlank, trimStart, trimEnd, fieldsAt, axesOf}
 use Rattle.words.specs.Sizes.{unsigned, isDigit, allDigits, valueFrom, isNumber, isSize, sizeOf}
 use Rattle.header.specs.Head.{fieldsOf, headChecks, headOf}
-use Rattle.flat_read.specs.Flat.{fourTo, isRepeat, crateFlat, flatTurn, flatOf}
-use Rattle.channels_read.specs.Channel.{isRun, spanLength, spanBytes, spanTaken, spanOf, crateCount, channelTurn, channelOf}
+use Rattle.flat_read.specs.Flat.{fourTo, isRepeat, copiesTo, crateFlat, documentOnes, documentFlat, flatTurn, flatOf}
+use Rattle.channels_read.specs.Channel.{isRun, spanLength, spanBytes, spanTaken, spanOf, crateCount, documentCount, channelTurn, channelOf}
 use Rattle.channels_read.specs.Channels.{chansTurn, channelsOf}
 use Rattle.steps.specs.Width.{isCoded}
-use Rattle.rows_read.specs.Row.{isFlatWidth, isMark, kindOf, early, rowBy, crateStart, crateParts, crateRow}
+use Rattle.rows_read.specs.Row.{isFlatWidth, isMark, kindOf, early, rowBy, crateStart, documentStart, documentMark, partsOf, rowOf}
 use Rattle.reader.specs.Samples.{placed}
 use Rattle.reader.specs.Frame.{stepOf, rowTurn, rowsOf}
-use Rattle.reader.specs.Read.{cratePixel, readBy}
+use Rattle.reader.specs.Read.{pixelBy, readBy}
 use Rattle.kept.specs.Skies.{Each}
 use Rattle.kept.specs.Shown.{unlit, shown}
 
 pub all-shown : Each shown
-unfolding round size run bytesFrom spread ofUnits mag crateShift crateScale crateUnits peak tooBright bytesOf packedOf upTo past same isFirst lineTurn linesEnd isBlank trimStart trimEnd fieldsAt axesOf unsigned isDigit allDigits valueFrom isNumber isSize sizeOf fieldsOf headChecks headOf fourTo isRepeat crateFlat flatTurn flatOf isRun spanLength spanBytes spanTaken spanOf crateCount channelTurn channelOf chansTurn channelsOf isFlatWidth isCoded isMark kindOf early rowBy crateStart crateParts crateRow unlit placed stepOf rowTurn rowsOf cratePixel readBy
-all-shown = (refl, (refl, (refl, (refl, (refl, (refl, (refl, (refl, (refl, (refl, (refl, (refl, (refl, (refl, (refl, (refl, tt))))))))))))))))
+unfolding round size run bytesFrom spread ofUnits mag crateShift scaleOf unitsOf peak tooBright bytesOf packedOf upTo past same isFirst lineTurn linesEnd isBlank trimStart trimEnd fieldsAt axesOf unsigned isDigit allDigits valueFrom isNumber isSize sizeOf fieldsOf headChecks headOf fourTo isRepeat copiesTo crateFlat documentOnes documentFlat flatTurn flatOf isRun spanLength spanBytes spanTaken spanOf crateCount documentCount channelTurn channelOf chansTurn channelsOf isFlatWidth isCoded isMark kindOf early rowBy crateStart documentStart documentMark partsOf rowOf unlit placed stepOf rowTurn rowsOf pixelBy readBy
+all-shown = (refl, (refl, (refl, (refl, (refl, (refl, (refl, (refl, (refl, (refl, (refl, (refl, (refl, (refl, (refl, (refl, (refl, (refl, (refl, (refl, (refl, tt)))))))))))))))))))))

@@ -4,21 +4,20 @@ use lib.Ieee.{round, size}
 use Rattle.steps.specs.Loop.{run}
 use Rattle.steps.specs.Place.{bytesFrom, spread}
 use Rattle.pixel.specs.Units.{ofUnits, mag}
-use Rattle.pixel.specs.Rgbe.{crateShift, crateScale, crateUnits, peak, tooBright, bytesOf, packedOf}
-use Rattle.loss.specs.Document.{docScale, docUnits}
+use Rattle.pixel.specs.Rgbe.{crateShift, scaleOf, unitsOf, peak, tooBright, bytesOf, packedOf}
 use Rattle.words.specs.Lines.{upTo, past, same, isFirst, lineTurn, linesEnd}
 use Rattle.words.specs.Fields.{isBlank, trimStart, trimEnd, fieldsAt, axesOf}
 use Rattle.words.specs.Sizes.{unsigned, isDigit, allDigits, valueFrom, isNumber, isSize, sizeOf}
 use Rattle.header.specs.Head.{fieldsOf, headChecks, headOf}
-use Rattle.flat_read.specs.Flat.{fourTo, isRepeat, crateFlat, flatTurn, flatOf}
+use Rattle.flat_read.specs.Flat.{fourTo, isRepeat, copiesTo, crateFlat, documentOnes, documentFlat, flatTurn, flatOf}
 use Rattle.steps.specs.Width.{isCoded}
-use Rattle.rows_read.specs.Row.{isFlatWidth, rowBy, crateParts, crateRow}
+use Rattle.rows_read.specs.Row.{isFlatWidth, rowBy, partsOf, rowOf}
 use Rattle.channels_written.specs.Channel.{grow, cut, stretch, gather, code}
 use Rattle.reader.specs.Samples.{placed}
 use Rattle.reader.specs.Frame.{stepOf, rowTurn, rowsOf}
-use Rattle.reader.specs.Read.{cratePixel, readBy}
+use Rattle.reader.specs.Read.{pixelBy, readBy}
 use Rattle.kept.specs.Skies.{skies, Each}
 
 pub all-skies : Each skies
-unfolding round size run bytesFrom spread ofUnits mag crateShift crateScale crateUnits docScale docUnits peak tooBright bytesOf packedOf upTo past same isFirst lineTurn linesEnd isBlank trimStart trimEnd fieldsAt axesOf unsigned isDigit allDigits valueFrom isNumber isSize sizeOf fieldsOf headChecks headOf fourTo isRepeat crateFlat flatTurn flatOf isFlatWidth isCoded rowBy crateParts crateRow grow cut stretch gather code placed stepOf rowTurn rowsOf cratePixel readBy
-all-skies = (refl, (refl, (refl, (refl, (refl, (refl, (refl, (refl, (refl, (refl, (refl, (refl, (refl, (refl, (refl, (refl, tt))))))))))))))))
+unfolding round size run bytesFrom spread ofUnits mag crateShift scaleOf unitsOf peak tooBright bytesOf packedOf upTo past same isFirst lineTurn linesEnd isBlank trimStart trimEnd fieldsAt axesOf unsigned isDigit allDigits valueFrom isNumber isSize sizeOf fieldsOf headChecks headOf fourTo isRepeat copiesTo crateFlat documentOnes documentFlat flatTurn flatOf isFlatWidth isCoded rowBy partsOf rowOf grow cut stretch gather code placed stepOf rowTurn rowsOf pixelBy readBy
+all-skies = (refl, (refl, (refl, (refl, (refl, (refl, (refl, (refl, (refl, (refl, (refl, (refl, (refl, (refl, (refl, (refl, (refl, tt)))))))))))))))))

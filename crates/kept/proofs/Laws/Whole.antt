@@ -14,11 +14,12 @@ use Rattle.steps.specs.declared.Taken.{Taken}
 use Rattle.steps.specs.declared.Taken.the-variants.{Done, Fault}
 use Rattle.header.specs.declared.Head.{Head}
 use Rattle.header.proofs.Laws.Head.{header-within}
+use Rattle.steps.specs.declared.Reading.the-variants.{Crate}
 use Rattle.rows_read.specs.Row.{crateRow}
 use Rattle.rows_read.specs.Middle.{Alike}
 use Rattle.rows_read.specs.Cut.{Short, CutRow}
 use Rattle.rows_read.proofs.Laws.Alike.{front-alike}
-use Rattle.rows_read.proofs.Laws.Bounds.{crate-sound}
+use Rattle.rows_read.proofs.Laws.Bounds.{reading-sound}
 use Rattle.rows_read.proofs.Laws.Cut.{cut-row}
 use Rattle.rows_read.proofs.Laws.Whole.{row-or-cut}
 use Rattle.reader.specs.Frame.{Stored, storedOf, cleared, stepOf, Rows, rows, Left, rowTurn, noRows, rowsOf}
@@ -73,7 +74,7 @@ module _ (bytes : List ℕ) (stored : Stored) (some : 0 < stored .long) where
       rows-cases crateRow cratePixel bytes stored x (λ (z : Turn Rows Left). T bytes x ≡ z → lead (run (T bytes) noRows k) z ≡ (done p, o, s) → Or)
       (λ next o′ s′ l f et r.
       let row = sym (went-on crateRow cratePixel (stored .long) (stored .place (x .row)) bytes (x .at) (x .out) o′ (x .store) s′ next f .0) in
-      let inside = crate-sound bytes (x .at) (x .store) (stored .long) .onward next (ap (λ (z : Taken × List ℕ). z .0) row) in-b .1 in
+      let inside = reading-sound Crate bytes (x .at) (x .store) (stored .long) .onward next (ap (λ (z : Taken × List ℕ). z .0) row) in-b .1 in
       more-rows next o′ s′ l et r row inside (row-or-cut bytes (x .at) (x .store) (stored .long) next s′ in-b row) (rows-or k (rows next (x .row + 1) s′ o′) p o s inside r))
       (λ number o′ s′ l f et r. refused-done number _ p _ o _ s r)
       (λ l et r. inr (λ rest. ap (lead (run (T (bytes ++ rest)) noRows k)) (turn-over (bytes ++ rest) x l) ∙ r))

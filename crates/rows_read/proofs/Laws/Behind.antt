@@ -20,7 +20,7 @@ use Rattle.flat_read.specs.Flat.{Flat, timesOf, documentOnes, crateFlat, docume
 use Rattle.rows_read.specs.declared.kind.Kind.{Kind}
 use Rattle.rows_read.specs.declared.kind.Kind.the-variants as kind
 use Rattle.rows_read.specs.Row.{RowParts, RowRule, isFlatWidth, isMark, kindOf, restBy, rowBy, early, proved, wholePixel, crateStart, documentStart, documentMark, startOf, markOf, partsOf, rowOf}
-use Rattle.rows_read.specs.Middle.{Settled, Behind, Alike, Rests, Alone}
+use Rattle.rows_read.specs.Middle.{Settled, Behind, Alike, Rests, Alone, gapOf}
 use Rattle.rows_read.proofs.Laws.Row.{kind-flat, kind-channels, kind-pixel, kind-cases, early-other, not-flat}
 use Rattle.rows_read.proofs.Laws.Alike.{byte-same, bytes-same, Near, near-or, Firm, NonePast, front-alike}
 use Rattle.rows_read.proofs.Laws.AloneChannels.{CountRests, CountAlone, channels-past, channels-alone}
@@ -60,16 +60,23 @@ pub record PartsAlone (gap : ℕ) (parts : RowParts) : Type 0 where
 
 module _ (gap : ℕ) (parts : RowParts) (alone : PartsAlone gap parts) where
   module _ (src : List ℕ) (n at : ℕ) (store : List ℕ) (width : ℕ) where
-    -- the start of a row whose answer rests on those bytes
-    kind-rests : 8 ≤ width → Firm gap (length src) n (restBy parts src at width (kindOf src at) store) → KindRests n at (kindOf src at)
-    kind-rests w =
-        kind-cases src at (λ (z : Kind). Firm gap (length src) n (restBy parts src at width z store) → KindRests n at z)
-        (λ f. f .0 refl)
-        (λ h e f. let l = alone .flat-first src n at store 0 width (omega arith) f in omega arith)
+    -- the first four bytes of a row whose answer rests on those bytes
+    first-four : 8 ≤ width → Firm gap (length src) n (restBy parts src at width (kindOf src at) store) → at + 4 ≤ n
+    first-four w =
+        kind-cases src at (λ (z : Kind). Firm gap (length src) n (restBy parts src at width z store) → at + 4 ≤ n)
+        (λ f. absurd (f .0 refl))
+        (λ h e f. alone .flat-first src n at store 0 width (omega arith) f)
         (λ h e m. by-test (λ (z : Taken × List ℕ). Firm gap (length src) n z → at + 4 ≤ n) (parts .mark src at width)
         (λ t f. near-or gap (length src) n (at + 4) (λ near. near .0) (λ far. absurd (alone .channels-past src n (at + 4) store width far f)))
         (λ t f. omega (arith, f .1)))
         (λ h e m f. near-or gap (length src) n (at + 4) (λ near. near .0) (λ far. absurd (alone .flat-past src n (at + 4) store 4 (width - 1) far f)))
+
+    -- and its start
+    kind-rests : 8 ≤ width → Firm gap (length src) n (restBy parts src at width (kindOf src at) store) → KindRests n at (kindOf src at)
+    kind-rests w firm =
+        let four = first-four w firm in
+        kind-cases src at (λ (z : Kind). Firm gap (length src) n (restBy parts src at width z store) → KindRests n at z)
+        (λ f. f .0 refl) (λ h e f. omega arith) (λ h e m f. four) (λ h e m f. four) firm
 
   module _ (src other : List ℕ) (n : ℕ) (alike : Alike n src other) (at : ℕ) (store : List ℕ) (width : ℕ) where
     rest-same : (k : Kind) (s : List ℕ) → KindRests n at k → Firm gap (length src) n (restBy parts src at width k s) → restBy parts other at width k s ≡ restBy parts src at width k s
@@ -99,6 +106,15 @@ module _ (gap : ℕ) (parts : RowParts) (alone : PartsAlone gap parts) where
         go true e = simp e (alone .flat src other n at store 0 width alike (simp e at firm))
         go false e = simp e (by-kind (not-flat width false (sym e) refl) (simp e at firm))
 
+  -- a row takes four bytes at least
+  pub row-first : (src : List ℕ) (n at : ℕ) (store : List ℕ) (width : ℕ) → 0 < width → Firm gap (length src) n (rowBy parts src at store width) → at + 4 ≤ n
+  unfolding rowBy
+  row-first src n at store width w = go (isFlatWidth width) refl
+    where
+      go : (b : Bool) → isFlatWidth width ≡ b → Firm gap (length src) n (rowBy parts src at store width) → at + 4 ≤ n
+      go true e firm = alone .flat-first src n at store 0 width w (simp e at firm)
+      go false e firm = first-four src n at (parts .start src at store) width (not-flat width false (sym e) refl) (simp e at firm)
+
   pub row-past : gap ≤ 1 → NonePast gap (rowBy parts)
   unfolding rowBy
   row-past small src n at store width far = go (isFlatWidth width) refl
@@ -119,13 +135,9 @@ alone-behind gap small rule alone src rest at store width settled = alone src (s
     rests (Done next) h = (omega arith, omega arith)
     rests (Fault number) h = (h, omega arith)
 
--- ---- Either reading: of the crate's one byte behind those taken shows that none was missing, and of the document's none is needed
+-- ---- Either reading
 
-abbrev pub gapOf : Reading → ℕ
-gapOf Crate = 1
-gapOf Document = 0
-
-gap-small : (reading : Reading) → gapOf reading ≤ 1
+pub gap-small : (reading : Reading) → gapOf reading ≤ 1
 gap-small Crate = omega arith
 gap-small Document = omega arith
 
@@ -283,3 +295,9 @@ reading-past reading = row-past (gapOf reading) (partsOf reading) (parts-alone r
 
 pub reading-behind : (reading : Reading) → Behind (rowOf reading)
 reading-behind reading = alone-behind (gapOf reading) (gap-small reading) (rowOf reading) (reading-alone reading)
+
+-- by the document reading all bytes of a row that is done were there, and there are four at least
+pub document-first : (src : List ℕ) (at : ℕ) (store : List ℕ) (width next : ℕ) → 0 < width → next ≤ length src → rowOf Document src at store width .0 ≡ Done next → at + 4 ≤ next
+unfolding rowOf
+document-first src at store width next w inside e =
+    row-first 0 (partsOf Document) (parts-alone Document) src next at store width w (subst (Rests 0 (length src) next) (sym e) (omega arith, omega arith))
