@@ -1,4 +1,6 @@
 // Light in decimal, exactly: a whole number over a power of two has as many decimals as the power has twos.
+pub mod leading;
+
 ghost use mathlib.Core.Path.{_≡_};
 ghost use Prim.Native.Nat.{_*_, _/_, _%_, _≤_, _<_};
 ghost use lib.ListN.{length};
