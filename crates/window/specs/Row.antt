@@ -7,7 +7,8 @@ use mathlib.Core.Path.{_≡_}
 use lib.ListN.{length}
 use lib.Dec.{leb, eqb}
 use Rattle.steps.specs.Loop.{pick}
-use Rattle.rows_read.specs.Row.{RowRule, crateRow}
+use Rattle.steps.specs.declared.Reading.{Reading}
+use Rattle.rows_read.specs.Row.{RowRule, rowOf}
 use Rattle.steps.specs.declared.Taken.{Taken}
 use Rattle.steps.specs.declared.Taken.the-variants as taken
 use Rattle.window.specs.declared.RowPart.{RowPart}
@@ -23,8 +24,8 @@ unfoldable pub partBy : RowRule → List ℕ → Bool → ℕ → List ℕ → �
 partBy rule part more at store width = let read = rule part at store width in (rowPart more (length part) (read .0), read .1)
 
 -- `window::read_row`: its answer, and the row store afterwards
-abbrev pub RowPromise : List ℕ → Bool → ℕ → List ℕ → ℕ → RowPart → List ℕ → Type 0
-RowPromise part more at store width answer store′ = (answer, store′) ≡ partBy crateRow part more at store width
+abbrev pub RowPromise : Reading → List ℕ → Bool → ℕ → List ℕ → ℕ → RowPart → List ℕ → Type 0
+RowPromise reading part more at store width answer store′ = (answer, store′) ≡ partBy (rowOf reading) part more at store width
 
 -- the next place lies in a part of n bytes
 abbrev pub RowWithin : ℕ → RowPart → Type 0

@@ -3,6 +3,7 @@ mod head;
 
 pub use head::HeadPart;
 pub use head::read_header;
+use steps::Reading;
 use steps::Taken;
 use steps::refusal;
 ghost use mathlib.Core.Path.{_≡_};
@@ -61,13 +62,20 @@ fn row_part(more: bool, length: usize, taken: Taken) -> RowPart
     }
 }
 
-// The row from a place of the part on.
-pub fn read_row(part: &[u8], more: bool, at: usize, store: &mut [u8], width: usize) -> RowPart
-    requires { ⌜ 4 * width ≤ length (now store) ⌝ }
-    ensures { λ r. ⌜ RowPromise (now (part .entry)) more at (now (store .entry)) width r (now (store .exit)) ⌝ }
+// The row from a place of the part on, by a reading.
+pub fn read_row(
+    reading: Reading,
+    part: &[u8],
+    more: bool,
+    at: usize,
+    store: &mut [u8],
+    width: usize,
+) -> RowPart
+    requires { ⌜ (4 * width ≤ length (now store)) × (width ≤ 65535) ⌝ }
+    ensures { λ r. ⌜ RowPromise reading (now (part .entry)) more at (now (store .entry)) width r (now (store .exit)) ⌝ }
     ensures { λ r. ⌜ (at ≤ length (now (part .entry)) → RowWithin (length (now (part .entry))) r) ⌝ }
 {
-    let taken = rows_read::read_row(part, at, store, width);
+    let taken = rows_read::read_row(reading, part, at, store, width);
     row_part(more, part.len(), taken)
 }
 

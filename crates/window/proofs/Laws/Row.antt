@@ -7,11 +7,12 @@ use borrow.Author.Tests.{leb-false, eqb-false}
 use lib.ListN.{length}
 use lib.Dec.{leb, eqb}
 use Rattle.steps.proofs.Laws.Turns.{by-test}
-use Rattle.rows_read.specs.Row.{RowRule, crateRow}
+use Rattle.steps.specs.declared.Reading.{Reading}
+use Rattle.rows_read.specs.Row.{RowRule, rowOf}
 use Rattle.rows_read.specs.Middle.{Settled, later, Before, Behind}
-use Rattle.rows_read.proofs.Laws.Bounds.{row-onward, crate-sound}
-use Rattle.rows_read.proofs.Laws.Before.{anywhere, crate-before}
-use Rattle.rows_read.proofs.Laws.Behind.{crate-behind}
+use Rattle.rows_read.proofs.Laws.Bounds.{row-onward, reading-sound}
+use Rattle.rows_read.proofs.Laws.Before.{anywhere, reading-before}
+use Rattle.rows_read.proofs.Laws.Behind.{reading-behind}
 use Rattle.steps.specs.declared.Taken.{Taken}
 use Rattle.steps.specs.declared.Taken.the-variants as taken
 use Rattle.window.specs.declared.RowPart.{RowPart}
@@ -50,15 +51,15 @@ unfolding rowPart
 within more n (taken.Done next) h = by-test (RowWithin n) (more && leb n next) (λ _. tt) (λ _. h next refl)
 within more n (taken.Fault number) h = by-test (RowWithin n) (more && eqb number 9) (λ _. tt) (λ _. tt)
 
-module _ (part : List ℕ) (more : Bool) (at : ℕ) (store store′ : List ℕ) (width : ℕ) (t : Taken) (n : ℕ) (r : RowPart) (e : (t, store′) ≡ crateRow part at store width) (en : n ≡ length part) (er : r ≡ rowPart more n t) where
-  pub part-is : (r, store′) ≡ partBy crateRow part more at store width
+module _ (reading : Reading) (part : List ℕ) (more : Bool) (at : ℕ) (store store′ : List ℕ) (width : ℕ) (t : Taken) (n : ℕ) (r : RowPart) (e : (t, store′) ≡ rowOf reading part at store width) (en : n ≡ length part) (er : r ≡ rowPart more n t) where
+  pub part-is : (r, store′) ≡ partBy (rowOf reading) part more at store width
   unfolding partBy
   part-is = rw (er, en) (ap (λ (z : Taken × List ℕ). (rowPart more (length part) (z .0), z .1)) e)
 
   pub part-within : at ≤ length part → RowWithin (length part) r
   part-within h =
-      let et : t ≡ crateRow part at store width .0 = ap (λ (z : Taken × List ℕ). z .0) e in
-      rw (er, en) (within more (length part) t (λ next k. row-onward crateRow crate-sound part at store width next (sym et ∙ k) h .1))
+      let et : t ≡ rowOf reading part at store width .0 = ap (λ (z : Taken × List ℕ). z .0) e in
+      rw (er, en) (within more (length part) t (λ next k. row-onward (rowOf reading) (reading-sound reading) part at store width next (sym et ∙ k) h .1))
 
 -- ---- What a part says of a row holds of the whole file
 
@@ -89,6 +90,7 @@ module _ (rule : RowRule) (before : Before rule) (behind : Behind rule) (pre par
   unfolding partBy
   row-of-file more goes = by-answer more goes (there .0) (there .1) refl
 
-pub crate-row-of-file : (pre part rest : List ℕ) (at : ℕ) (store : List ℕ) (width : ℕ) (more : Bool) → Goes more rest
-    → OfFile (length pre) (partBy crateRow part more at store width .0) (partBy crateRow part more at store width .1) (crateRow (pre ++ (part ++ rest)) (length pre + at) store width)
-crate-row-of-file = row-of-file crateRow crate-before crate-behind
+-- by either reading
+pub reading-row-of-file : (reading : Reading) (pre part rest : List ℕ) (at : ℕ) (store : List ℕ) (width : ℕ) (more : Bool) → Goes more rest
+    → OfFile (length pre) (partBy (rowOf reading) part more at store width .0) (partBy (rowOf reading) part more at store width .1) (rowOf reading (pre ++ (part ++ rest)) (length pre + at) store width)
+reading-row-of-file reading = row-of-file (rowOf reading) (reading-before reading) (reading-behind reading)
