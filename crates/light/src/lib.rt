@@ -28,7 +28,7 @@ pub fn mantissa(q: Rgbe) -> usize
 // A mantissa of 1 is worth 2^shift times 2^-149 at the exponent byte e.
 pub fn shift(reading: Reading, e: u8) -> usize
     ensures { λ r. ⌜ r ≡ shiftOf reading e ⌝ }
-    ensures { λ r. ⌜ r ≤ 268 ⌝ }
+    ensures { λ r. ⌜ (13 ≤ r) × (r ≤ 268) ⌝ }
 {
     pixel::shift(reading, e) as usize
 }

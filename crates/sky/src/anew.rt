@@ -8,6 +8,7 @@ use crate::pen;
 use crate::pen::Pen;
 use crate::say;
 use header::Head;
+use steps::Reading;
 ghost use Prim.Native.Nat.{_≤_};
 ghost use Rattle.sky.specs.Inner.{Held, Ended};
 
@@ -42,6 +43,7 @@ fn write_row(
 
 // Reads the row k and writes it anew.
 fn copy_row(
+    reading: Reading,
     fd: i32,
     to: i32,
     bytes: &mut [u8; 2097152],
@@ -57,7 +59,7 @@ fn copy_row(
     ensures { λ r. ⌜ Ended (r .outcome) ⌝ }
     ensures { λ r. ⌜ r .pen .put ≤ 262144 ⌝ }
 {
-    let step = file::next_row(fd, bytes, store, width, k, view);
+    let step = file::next_row(reading, fd, bytes, store, width, k, view);
     match step {
         Step::Row(next) => write_row(to, store, room, width, next, pen),
         Step::Ended(outcome) => Copied { outcome, pen },
@@ -66,6 +68,7 @@ fn copy_row(
 
 // Reads the rows one by one and writes each anew.
 fn copy_rows(
+    reading: Reading,
     fd: i32,
     to: i32,
     bytes: &mut [u8; 2097152],
@@ -90,7 +93,7 @@ fn copy_rows(
         let Outcome::Whole(v) = outcome else {
             return Copied { outcome, pen };
         };
-        let copied = copy_row(fd, to, bytes, store, room, width, k, v, pen);
+        let copied = copy_row(reading, fd, to, bytes, store, room, width, k, v, pen);
         outcome = copied.outcome;
         pen = copied.pen;
         say::progress(shown, k, height);
@@ -120,6 +123,7 @@ fn finish(to: i32, room: &[u8; 524288], copied: Copied) -> Copied
 
 // Writes the header and the rows.
 pub(crate) fn copy_all(
+    reading: Reading,
     fd: i32,
     to: i32,
     bytes: &mut [u8; 2097152],
@@ -139,6 +143,17 @@ pub(crate) fn copy_all(
         written: 0,
         failed: false,
     };
-    let copied = copy_rows(fd, to, bytes, store, room, head, view, shown, start);
+    let copied = copy_rows(
+        reading,
+        fd,
+        to,
+        bytes,
+        store,
+        room,
+        head,
+        view,
+        shown,
+        start,
+    );
     finish(to, room, copied)
 }

@@ -5,6 +5,7 @@ use crate::info;
 use crate::kept;
 use crate::say;
 use crate::stops;
+use steps::Reading;
 
 // What the first word asks for.
 enum Command {
@@ -60,20 +61,33 @@ fn help() -> bool {
     say::text(b"  ./sky copy IN OUT [--force]  the picture of IN, written anew to OUT\n");
     say::text(b"  ./sky help                   this text, as --help and -h\n");
     say::text(b"  ./sky --version              the version, and the kit that proved it\n\n");
+    help_reading();
     help_more();
     true
 }
 
-// What the answers mean.
-fn help_more() {
+// How files are read, and what light is.
+fn help_reading() {
     say::text(
-        b"A pixel's light is its largest sample. 'outside 97-159' counts the pixels that show\n",
+        b"Files are read by the Radiance document. With --crate, which info, stops and copy take, they are\n",
     );
-    say::text(b"light and have an exponent byte at which programs differ in brightness.\n");
+    say::text(
+        b"read as zune-hdr reads them: other light outside the exponents 97-159, no old runs, broken rows shown.\n",
+    );
+    say::text(
+        b"A pixel's light is its largest sample; where it has many digits, its first nine and a power of ten.\n",
+    );
+    say::text(
+        b"'outside 97-159' counts the pixels that show light and that zune-hdr shows at another brightness.\n",
+    );
     say::text(
         b"The chart of 'stops' goes by the Radiance document, darkest first; '|' marks light from\n",
     );
-    say::text(b"2^-32 to below 2^31, which zune-hdr, and so 'info', shows as it is.\n");
+    say::text(b"2^-32 to below 2^31, which zune-hdr shows as it is.\n");
+}
+
+// What a copy is, and how an answer ends.
+fn help_more() {
     say::text(
         b"A copy has the same pixels, bit for bit, under a header of its own: comments and the lines\n",
     );
@@ -91,6 +105,65 @@ fn help_more() {
     );
 }
 
+// A word that stands before the names.
+enum Word {
+    Crate,
+    Brief,
+    Name,
+}
+
+// What the word at a place is.
+fn word_at(i: usize) -> Word {
+    let mut word = io::buffer();
+    let n = os::arg(i, &mut word);
+    if check::same(&word[..n], b"--crate") {
+        return Word::Crate;
+    }
+    if check::same(&word[..n], b"--brief") {
+        return Word::Brief;
+    }
+    Word::Name
+}
+
+// What the words before the names ask for, and the place of the first name.
+struct Options {
+    reading: Reading,
+    brief: bool,
+    from: usize,
+}
+
+// Reads the words before the names.
+fn words_before() -> Options {
+    let count = os::arg_count();
+    let mut reading = Reading::Document;
+    let mut brief = false;
+    let mut from = 2;
+    while from < count {
+        let word = word_at(from);
+        match word {
+            Word::Crate => {
+                reading = Reading::Crate;
+            }
+            Word::Brief => {
+                brief = true;
+            }
+            Word::Name => {
+                return Options {
+                    reading,
+                    brief,
+                    from,
+                };
+            }
+        }
+        from += 1;
+    }
+    Options {
+        reading,
+        brief,
+        from,
+    }
+}
+
 // What is said of each file.
 enum Form {
     Lines,
@@ -99,16 +172,22 @@ enum Form {
 }
 
 // Says what the file of one word holds.
-fn tell_word(form: Form, i: usize, bytes: &mut [u8; 2097152], store: &mut [u8; 262140]) -> bool {
+fn tell_word(
+    reading: Reading,
+    form: Form,
+    i: usize,
+    bytes: &mut [u8; 2097152],
+    store: &mut [u8; 262140],
+) -> bool {
     let mut name = io::buffer();
     let n = os::arg(i, &mut name);
     if os::errno() != 0 {
         return wrong(b"a name is too long", b"");
     }
     match form {
-        Form::Lines => info::tell(&name[..n], bytes, store),
-        Form::Brief => brief::tell(&name[..n], bytes, store),
-        Form::Chart => stops::tell(&name[..n], bytes, store),
+        Form::Lines => info::tell(reading, &name[..n], bytes, store),
+        Form::Brief => brief::tell(reading, &name[..n], bytes, store),
+        Form::Chart => stops::tell(reading, &name[..n], bytes, store),
     }
 }
 
@@ -133,7 +212,13 @@ fn with_file(tally: Tally, ok: bool) -> Tally {
 }
 
 // Says what each file holds, from one word on.
-fn tell_all(form: Form, from: usize, bytes: &mut [u8; 2097152], store: &mut [u8; 262140]) -> Tally {
+fn tell_all(
+    reading: Reading,
+    form: Form,
+    from: usize,
+    bytes: &mut [u8; 2097152],
+    store: &mut [u8; 262140],
+) -> Tally {
     let count = os::arg_count();
     let mut tally = Tally {
         whole: 0,
@@ -141,70 +226,99 @@ fn tell_all(form: Form, from: usize, bytes: &mut [u8; 2097152], store: &mut [u8;
     };
     let mut i = from;
     while i < count {
-        tally = with_file(tally, tell_word(form, i, bytes, store));
+        tally = with_file(tally, tell_word(reading, form, i, bytes, store));
         i += 1;
     }
     tally
 }
 
-// A table of the files from the third word on.
-fn tell_table(bytes: &mut [u8; 2097152], store: &mut [u8; 262140]) -> bool {
-    if os::arg_count() < 4 {
-        return wrong(b"info wants a file", b"");
-    }
+// A table of the files from one word on.
+fn tell_table(
+    reading: Reading,
+    from: usize,
+    bytes: &mut [u8; 2097152],
+    store: &mut [u8; 262140],
+) -> bool {
     brief::names();
-    let tally = tell_all(Form::Brief, 3, bytes, store);
+    let tally = tell_all(reading, Form::Brief, from, bytes, store);
     brief::end(tally.whole, tally.refused);
     tally.refused == 0
 }
 
-// Whether the second word is --brief.
-fn is_brief() -> bool {
-    let mut word = io::buffer();
-    let n = os::arg(2, &mut word);
-    check::same(&word[..n], b"--brief")
-}
-
 // Says what each file holds, and answers whether all are whole.
 fn info_by_words(bytes: &mut [u8; 2097152], store: &mut [u8; 262140]) -> bool {
-    if is_brief() {
-        return tell_table(bytes, store);
-    }
-    if os::arg_count() < 3 {
+    let asked = words_before();
+    let reading = asked.reading;
+    if os::arg_count() <= asked.from {
         return wrong(b"info wants a file", b"");
     }
-    let tally = tell_all(Form::Lines, 2, bytes, store);
+    if asked.brief {
+        return tell_table(reading, asked.from, bytes, store);
+    }
+    let tally = tell_all(reading, Form::Lines, asked.from, bytes, store);
     tally.refused == 0
 }
 
 // Shows the light of each file, and answers whether all are whole.
 fn stops_by_words(bytes: &mut [u8; 2097152], store: &mut [u8; 262140]) -> bool {
-    if os::arg_count() < 3 {
+    let asked = words_before();
+    let reading = asked.reading;
+    if asked.brief {
+        return wrong(b"stops has no --brief", b"");
+    }
+    if os::arg_count() <= asked.from {
         return wrong(b"stops wants a file", b"");
     }
-    let tally = tell_all(Form::Chart, 2, bytes, store);
+    let tally = tell_all(reading, Form::Chart, asked.from, bytes, store);
     tally.refused == 0
 }
 
-// Copies as the words say: IN, OUT, and the name under which OUT is written, which who starts the program has chosen.
+// Copies as the words from one on say: IN, OUT, and the name under which OUT is written, which who starts the program has chosen.
+fn copy_words(
+    reading: Reading,
+    from: usize,
+    bytes: &mut [u8; 2097152],
+    store: &mut [u8; 262140],
+    room: &mut [u8; 524288],
+) -> bool {
+    if steps::less(os::arg_count(), from) != 3 {
+        return wrong(
+            b"copy wants IN and OUT, and perhaps --force and --crate",
+            b"",
+        );
+    }
+    let mut name = io::buffer();
+    let n = os::arg(from, &mut name);
+    let mut out = io::buffer();
+    let m = os::arg(from + 1, &mut out);
+    let mut part = io::buffer();
+    let k = os::arg(from + 2, &mut part);
+    if n == 0 || m == 0 || k == 0 {
+        return wrong(b"a name is empty or too long", b"");
+    }
+    copy::copy(
+        reading,
+        &name[..n],
+        &out[..m],
+        &part[..k],
+        bytes,
+        store,
+        room,
+    )
+}
+
+// Copies by a reading.
 fn copy_by_words(
     bytes: &mut [u8; 2097152],
     store: &mut [u8; 262140],
     room: &mut [u8; 524288],
 ) -> bool {
-    if os::arg_count() != 5 {
-        return wrong(b"copy wants IN and OUT, and perhaps --force", b"");
+    let asked = words_before();
+    let reading = asked.reading;
+    if asked.brief {
+        return wrong(b"copy has no --brief", b"");
     }
-    let mut name = io::buffer();
-    let n = os::arg(2, &mut name);
-    let mut out = io::buffer();
-    let m = os::arg(3, &mut out);
-    let mut part = io::buffer();
-    let k = os::arg(4, &mut part);
-    if n == 0 || m == 0 || k == 0 {
-        return wrong(b"a name is empty or too long", b"");
-    }
-    copy::copy(&name[..n], &out[..m], &part[..k], bytes, store, room)
+    copy_words(reading, asked.from, bytes, store, room)
 }
 
 // Says why OUT is left as it is, by the words of who looked: IN, OUT, why, and OUT's folder.

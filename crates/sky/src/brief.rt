@@ -8,6 +8,7 @@ use crate::outcome::Outcome;
 use crate::rows;
 use crate::say;
 use header::Head;
+use steps::Reading;
 use survey::Totals;
 ghost use Prim.Native.Nat.{_≤_};
 ghost use Rattle.sky.specs.Inner.{Held};
@@ -42,16 +43,16 @@ fn say_cut(head: Head, outcome: Outcome) {
 }
 
 // The fields of a file that is whole.
-fn say_found(head: Head, totals: Totals, after: usize) {
+fn say_found(reading: Reading, head: Head, totals: Totals, after: usize) {
     let darkest = totals.darkest;
     let brightest = totals.brightest;
     say::text(b"whole\t-\t-");
     say::tab(head.width);
     say::tab(head.height);
     say::text(b"\t");
-    lit::say_brief(darkest);
+    lit::say_brief(reading, darkest);
     say::text(b"\t");
-    lit::say_brief(brightest);
+    lit::say_brief(reading, brightest);
     say::tab(totals.black);
     say::tab(totals.masked);
     say::tab(after);
@@ -60,6 +61,7 @@ fn say_found(head: Head, totals: Totals, after: usize) {
 
 // Reads the rows of a picture, says its fields, and answers whether it is whole.
 fn tell_rows(
+    reading: Reading,
     fd: i32,
     bytes: &mut [u8; 2097152],
     store: &mut [u8; 262140],
@@ -70,12 +72,12 @@ fn tell_rows(
     requires { ⌜ (head .width ≤ 65535) × (head .height ≤ 65535) ⌝ }
 {
     steps::clear(store, 4 * head.width);
-    let found = rows::read_rows(fd, bytes, store, head, view, false);
+    let found = rows::read_rows(reading, fd, bytes, store, head, view, false);
     let outcome = found.outcome;
     match outcome {
         Outcome::Whole(v) => {
             let totals = found.totals;
-            say_found(head, totals, file::after(fd, bytes, v));
+            say_found(reading, head, totals, file::after(fd, bytes, v));
             true
         }
         _ => {
@@ -86,10 +88,15 @@ fn tell_rows(
 }
 
 // Says the fields of an open file, and answers whether it is whole.
-fn tell_open(fd: i32, bytes: &mut [u8; 2097152], store: &mut [u8; 262140]) -> bool {
+fn tell_open(
+    reading: Reading,
+    fd: i32,
+    bytes: &mut [u8; 2097152],
+    store: &mut [u8; 262140],
+) -> bool {
     let start = file::open(fd, bytes);
     match start {
-        Start::Sizes(head, view) => tell_rows(fd, bytes, store, head, view),
+        Start::Sizes(head, view) => tell_rows(reading, fd, bytes, store, head, view),
         Start::Ended(outcome) => {
             say_refused(outcome);
             false
@@ -98,20 +105,30 @@ fn tell_open(fd: i32, bytes: &mut [u8; 2097152], store: &mut [u8; 262140]) -> bo
 }
 
 // Says the fields of a file of that name, and answers whether it is whole.
-fn tell_fields(name: &[u8], bytes: &mut [u8; 2097152], store: &mut [u8; 262140]) -> bool {
+fn tell_fields(
+    reading: Reading,
+    name: &[u8],
+    bytes: &mut [u8; 2097152],
+    store: &mut [u8; 262140],
+) -> bool {
     let fd = os::open_read(name);
     if fd < 0 {
         say_refused(Outcome::Unreadable { error: os::errno() });
         return false;
     }
-    let ok = tell_open(fd, bytes, store);
+    let ok = tell_open(reading, fd, bytes, store);
     libc::close(fd);
     ok
 }
 
 // Says what a file holds in a line, and answers whether it is whole.
-pub(crate) fn tell(name: &[u8], bytes: &mut [u8; 2097152], store: &mut [u8; 262140]) -> bool {
-    let ok = tell_fields(name, bytes, store);
+pub(crate) fn tell(
+    reading: Reading,
+    name: &[u8],
+    bytes: &mut [u8; 2097152],
+    store: &mut [u8; 262140],
+) -> bool {
+    let ok = tell_fields(reading, name, bytes, store);
     say::name(name);
     say::text(b"\n");
     ok

@@ -8,6 +8,7 @@ use crate::outcome;
 use crate::outcome::Outcome;
 use crate::say;
 use header::Head;
+use steps::Reading;
 ghost use Prim.Native.Nat.{_≤_};
 ghost use Rattle.sky.specs.Inner.{Held, Ended};
 
@@ -69,6 +70,7 @@ fn say_end(
 
 // Copies an open picture to the file `part`, which is gone again where that fails.
 fn copy_to(
+    reading: Reading,
     fd: i32,
     name: &[u8],
     out: &[u8],
@@ -89,7 +91,7 @@ fn copy_to(
         return false;
     }
     say::begin(shown, name);
-    let copied = anew::copy_all(fd, to, bytes, store, room, head, view, shown);
+    let copied = anew::copy_all(reading, fd, to, bytes, store, room, head, view, shown);
     say::end(shown);
     let copied_outcome = copied.outcome;
     let outcome = settle(to, copied_outcome);
@@ -103,6 +105,7 @@ fn copy_to(
 
 // Copies an open file.
 fn copy_open(
+    reading: Reading,
     fd: i32,
     name: &[u8],
     out: &[u8],
@@ -115,7 +118,19 @@ fn copy_open(
     let start = file::open(fd, bytes);
     match start {
         Start::Sizes(head, view) => {
-            copy_to(fd, name, out, part, bytes, store, room, head, view, shown)
+            copy_to(
+                reading,
+                fd,
+                name,
+                out,
+                part,
+                bytes,
+                store,
+                room,
+                head,
+                view,
+                shown,
+            )
         }
         Start::Ended(outcome) => {
             outcome::say_outcome(outcome);
@@ -126,6 +141,7 @@ fn copy_open(
 
 // Copies a file to the new file `part`, which is to be named `out`. Answers whether it is whole.
 pub(crate) fn copy(
+    reading: Reading,
     name: &[u8],
     out: &[u8],
     part: &[u8],
@@ -140,7 +156,7 @@ pub(crate) fn copy(
         name::say_unopened(os::errno());
         return false;
     }
-    let ok = copy_open(fd, name, out, part, bytes, store, room);
+    let ok = copy_open(reading, fd, name, out, part, bytes, store, room);
     libc::close(fd);
     ok
 }

@@ -1,11 +1,12 @@
 // A file that is read by a window: 2 MiB of it are held, and a header or a row is looked for in the 1 MiB from its start on.
-// What is read or refused in such a part is read or refused alike in the whole file: `header-of-file`, `refusal-of-file` and `crate-row-of-file`, in the laws of `window`.
+// What is read or refused in such a part is read or refused alike in the whole file: `header-of-file`, `refusal-of-file` and `reading-row-of-file`, in the laws of `window`.
 use crate::fill;
 use crate::flaw;
 use crate::outcome::Outcome;
 use header::Head;
 use libc::SEEK_END;
 use libc::SEEK_SET;
+use steps::Reading;
 use steps::refusal;
 use steps::refusal::Refusal;
 use window::HeadPart;
@@ -142,6 +143,7 @@ pub(crate) enum Step {
 
 // What the part that ends there says of the row from `at` on, which goes to the row store.
 fn row_in(
+    reading: Reading,
     bytes: &[u8],
     at: usize,
     end: usize,
@@ -149,14 +151,15 @@ fn row_in(
     store: &mut [u8],
     width: usize,
 ) -> RowPart
-    requires { ⌜ (at ≤ end) × (end ≤ length (now bytes)) × (4 * width ≤ length (now store)) ⌝ }
+    requires { ⌜ (at ≤ end) × (end ≤ length (now bytes)) × (4 * width ≤ length (now store)) × (width ≤ 65535) ⌝ }
     ensures { λ r. ⌜ RowWithin end r ⌝ }
 {
-    window::read_row(&bytes[..end], more, at, store, width)
+    window::read_row(reading, &bytes[..end], more, at, store, width)
 }
 
 // Reads the row k into the row store.
 pub(crate) fn next_row(
+    reading: Reading,
     fd: i32,
     bytes: &mut [u8; 2097152],
     store: &mut [u8; 262140],
@@ -173,7 +176,7 @@ pub(crate) fn next_row(
         return Step::Ended(Outcome::Unreadable { error: v.error });
     }
     let end = part_end(v);
-    let answer = row_in(bytes, v.at, end, goes_on(v, end), store, width);
+    let answer = row_in(reading, bytes, v.at, end, goes_on(v, end), store, width);
     match answer {
         RowPart::Read { next } => Step::Row(moved_to(v, next)),
         RowPart::Fault { number } => Step::Ended(Outcome::Refused(Refusal { number, place: k })),

@@ -9,6 +9,7 @@ use crate::outcome::Outcome;
 use crate::rows;
 use crate::say;
 use header::Head;
+use steps::Reading;
 use survey::Totals;
 use writer::WriteAnswer;
 ghost use Prim.Native.Nat.{_≤_};
@@ -31,7 +32,7 @@ fn whole_length(head: Head, rows: usize) -> usize
 }
 
 // The darkest and the brightest pixel.
-fn say_lights(height: usize, totals: Totals) {
+fn say_lights(reading: Reading, height: usize, totals: Totals) {
     if height == 0 {
         say::text(b"  darkest pixel    none, there is no pixel\n");
         say::text(b"  brightest pixel  none, there is no pixel\n");
@@ -39,19 +40,26 @@ fn say_lights(height: usize, totals: Totals) {
     }
     let darkest = totals.darkest;
     let brightest = totals.brightest;
-    lit::say_light(b"  darkest pixel    ", darkest);
-    lit::say_light(b"  brightest pixel  ", brightest);
+    lit::say_light(reading, b"  darkest pixel    ", darkest);
+    lit::say_light(reading, b"  brightest pixel  ", brightest);
 }
 
 // What was found, line by line.
-fn say_found(head: Head, totals: Totals, length: usize, taken: usize, after: usize)
+fn say_found(
+    reading: Reading,
+    head: Head,
+    totals: Totals,
+    length: usize,
+    taken: usize,
+    after: usize,
+)
     requires { ⌜ length ≤ 17179869184 ⌝ }
 {
     say::field(b"  width            ", head.width);
     say::field(b"  height           ", head.height);
     say::field(b"  bytes taken      ", taken);
     say::field(b"  bytes after      ", after);
-    say_lights(head.height, totals);
+    say_lights(reading, head.height, totals);
     say::field(b"  black pixels     ", totals.black);
     say::field(b"  outside 97-159   ", totals.masked);
     say::field(b"  if written anew  ", whole_length(head, length));
@@ -60,6 +68,7 @@ fn say_found(head: Head, totals: Totals, length: usize, taken: usize, after: usi
 
 // Reads the rows of a picture, says what was found, and answers whether it is whole.
 fn tell_rows(
+    reading: Reading,
     fd: i32,
     name: &[u8],
     bytes: &mut [u8; 2097152],
@@ -73,14 +82,14 @@ fn tell_rows(
 {
     steps::clear(store, 4 * head.width);
     say::begin(shown, name);
-    let found = rows::read_rows(fd, bytes, store, head, view, shown);
+    let found = rows::read_rows(reading, fd, bytes, store, head, view, shown);
     say::end(shown);
     let outcome = found.outcome;
     match outcome {
         Outcome::Whole(v) => {
             let totals = found.totals;
             let after = file::after(fd, bytes, v);
-            say_found(head, totals, found.length, file::taken(v), after);
+            say_found(reading, head, totals, found.length, file::taken(v), after);
             true
         }
         _ => {
@@ -91,11 +100,17 @@ fn tell_rows(
 }
 
 // Says what an open file holds, and answers whether it is whole.
-fn tell_open(fd: i32, name: &[u8], bytes: &mut [u8; 2097152], store: &mut [u8; 262140]) -> bool {
+fn tell_open(
+    reading: Reading,
+    fd: i32,
+    name: &[u8],
+    bytes: &mut [u8; 2097152],
+    store: &mut [u8; 262140],
+) -> bool {
     let shown = file::is_large(fd);
     let start = file::open(fd, bytes);
     match start {
-        Start::Sizes(head, view) => tell_rows(fd, name, bytes, store, head, view, shown),
+        Start::Sizes(head, view) => tell_rows(reading, fd, name, bytes, store, head, view, shown),
         Start::Ended(outcome) => {
             outcome::say_outcome(outcome);
             false
@@ -104,7 +119,12 @@ fn tell_open(fd: i32, name: &[u8], bytes: &mut [u8; 2097152], store: &mut [u8; 2
 }
 
 // Says what a file holds, and answers whether it is whole.
-pub(crate) fn tell(name: &[u8], bytes: &mut [u8; 2097152], store: &mut [u8; 262140]) -> bool {
+pub(crate) fn tell(
+    reading: Reading,
+    name: &[u8],
+    bytes: &mut [u8; 2097152],
+    store: &mut [u8; 262140],
+) -> bool {
     say::name(name);
     say::text(b"\n");
     let fd = os::open_read(name);
@@ -112,7 +132,7 @@ pub(crate) fn tell(name: &[u8], bytes: &mut [u8; 2097152], store: &mut [u8; 2621
         name::say_unopened(os::errno());
         return false;
     }
-    let ok = tell_open(fd, name, bytes, store);
+    let ok = tell_open(reading, fd, name, bytes, store);
     libc::close(fd);
     ok
 }

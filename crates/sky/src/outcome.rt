@@ -33,8 +33,11 @@ fn sentence(number: u8) {
         refusal::BYTES_END => say::text(
             b"the file ends before the picture does: it was cut off, or not copied whole",
         ),
+        refusal::BROKEN_ROW => say::text(
+            b"the row is broken: its mark names another width, a run or a repeat passes its end, or a repeat has no pixel before it",
+        ),
         refusal::OLD_RUN => say::text(
-            b"an old run, a pixel 1, 1, 1, n that asks for copies of the one before it, is not read",
+            b"an old run, a pixel 1, 1, 1, n that asks for copies of the one before it, is not read with --crate",
         ),
         _ => say::text(b"the file cannot be read"),
     }
@@ -50,6 +53,7 @@ fn say_number(number: u8) {
 fn names_row(number: u8) -> bool {
     match number {
         refusal::BYTES_END => true,
+        refusal::BROKEN_ROW => true,
         refusal::OLD_RUN => true,
         _ => false,
     }

@@ -5,6 +5,7 @@ use crate::file::View;
 use crate::outcome::Outcome;
 use crate::say;
 use header::Head;
+use steps::Reading;
 use survey::Totals;
 ghost use Prim.Native.Nat.{_+_, _≤_};
 ghost use Rattle.sky.specs.Inner.{Held, Ended};
@@ -25,7 +26,7 @@ fn row_length(store: &[u8; 262140], width: usize) -> usize
 }
 
 // What the row in the store adds to what was found; the window stands behind it.
-fn with_row(store: &[u8; 262140], width: usize, view: View, found: Found) -> Found
+fn with_row(reading: Reading, store: &[u8; 262140], width: usize, view: View, found: Found) -> Found
     requires { ⌜ Held view ⌝ }
     requires { ⌜ (width ≤ 65535) × (found .totals .black ≤ 4294967296) × (found .totals .masked ≤ 4294967296) × (found .length ≤ 17179869184) ⌝ }
     ensures { λ r. ⌜ Ended (r .outcome) ⌝ }
@@ -33,7 +34,7 @@ fn with_row(store: &[u8; 262140], width: usize, view: View, found: Found) -> Fou
 {
     let totals = found.totals;
     Found {
-        totals: survey::row(store, width, totals),
+        totals: survey::row(reading, store, width, totals),
         length: found.length + row_length(store, width),
         outcome: Outcome::Whole(view),
     }
@@ -41,6 +42,7 @@ fn with_row(store: &[u8; 262140], width: usize, view: View, found: Found) -> Fou
 
 // Reads the row k.
 fn read_row(
+    reading: Reading,
     fd: i32,
     bytes: &mut [u8; 2097152],
     store: &mut [u8; 262140],
@@ -55,9 +57,9 @@ fn read_row(
     ensures { λ r. ⌜ (r .totals .black ≤ found .totals .black + 65535) × (r .totals .masked ≤ found .totals .masked + 65535) × (r .length ≤ found .length + 262144) ⌝ }
 {
     let totals = found.totals;
-    let step = file::next_row(fd, bytes, store, width, k, view);
+    let step = file::next_row(reading, fd, bytes, store, width, k, view);
     match step {
-        Step::Row(next) => with_row(store, width, next, found),
+        Step::Row(next) => with_row(reading, store, width, next, found),
         Step::Ended(outcome) => Found {
             totals,
             length: found.length,
@@ -81,6 +83,7 @@ fn nothing(view: View) -> Found
 
 // Reads the rows one by one.
 pub(crate) fn read_rows(
+    reading: Reading,
     fd: i32,
     bytes: &mut [u8; 2097152],
     store: &mut [u8; 262140],
@@ -102,7 +105,7 @@ pub(crate) fn read_rows(
         let Outcome::Whole(v) = outcome else {
             return found;
         };
-        found = read_row(fd, bytes, store, width, k, v, found);
+        found = read_row(reading, fd, bytes, store, width, k, v, found);
         say::progress(shown, k, height);
         k += 1;
     }

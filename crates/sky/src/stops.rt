@@ -8,11 +8,13 @@ use crate::outcome;
 use crate::outcome::Outcome;
 use crate::say;
 use header::Head;
+use steps::Reading;
 ghost use Prim.Native.Nat.{_≤_, _<_};
 ghost use Rattle.sky.specs.Inner.{Held, Ended};
 
 // Reads the row k and counts its pixels.
 fn count_row(
+    reading: Reading,
     fd: i32,
     bytes: &mut [u8; 2097152],
     store: &mut [u8; 262140],
@@ -25,7 +27,7 @@ fn count_row(
     requires { ⌜ width ≤ 65535 ⌝ }
     ensures { λ r. ⌜ Ended r ⌝ }
 {
-    let step = file::next_row(fd, bytes, store, width, k, view);
+    let step = file::next_row(reading, fd, bytes, store, width, k, view);
     match step {
         Step::Row(next) => {
             survey::stops::row(store, width, counts);
@@ -37,6 +39,7 @@ fn count_row(
 
 // Reads the rows one by one and counts their pixels.
 fn count_rows(
+    reading: Reading,
     fd: i32,
     bytes: &mut [u8; 2097152],
     store: &mut [u8; 262140],
@@ -57,7 +60,7 @@ fn count_rows(
         let Outcome::Whole(v) = outcome else {
             return outcome;
         };
-        outcome = count_row(fd, bytes, store, counts, width, k, v);
+        outcome = count_row(reading, fd, bytes, store, counts, width, k, v);
         say::progress(shown, k, height);
         k += 1;
     }
@@ -102,7 +105,7 @@ fn say_spaces(n: usize) {
     }
 }
 
-// The power of two in which a stop lies; 105 to 167 are marked: there light is read as it is.
+// The power of two in which a stop lies; 105 to 167 are marked: there the crate reading shows light as it is.
 fn say_power(k: usize)
     requires { ⌜ k < 264 ⌝ }
 {
@@ -169,6 +172,7 @@ fn say_chart(counts: &[usize; 264], height: usize) {
 
 // Counts the pixels of a picture, shows them, and answers whether it is whole.
 fn tell_rows(
+    reading: Reading,
     fd: i32,
     name: &[u8],
     bytes: &mut [u8; 2097152],
@@ -183,7 +187,7 @@ fn tell_rows(
     let mut counts = [0usize; 264];
     steps::clear(store, 4 * head.width);
     say::begin(shown, name);
-    let outcome = count_rows(fd, bytes, store, &mut counts, head, view, shown);
+    let outcome = count_rows(reading, fd, bytes, store, &mut counts, head, view, shown);
     say::end(shown);
     if outcome::is_whole(outcome) {
         say_chart(&counts, head.height);
@@ -194,11 +198,17 @@ fn tell_rows(
 }
 
 // Shows the light of an open file, and answers whether it is whole.
-fn tell_open(fd: i32, name: &[u8], bytes: &mut [u8; 2097152], store: &mut [u8; 262140]) -> bool {
+fn tell_open(
+    reading: Reading,
+    fd: i32,
+    name: &[u8],
+    bytes: &mut [u8; 2097152],
+    store: &mut [u8; 262140],
+) -> bool {
     let shown = file::is_large(fd);
     let start = file::open(fd, bytes);
     match start {
-        Start::Sizes(head, view) => tell_rows(fd, name, bytes, store, head, view, shown),
+        Start::Sizes(head, view) => tell_rows(reading, fd, name, bytes, store, head, view, shown),
         Start::Ended(outcome) => {
             outcome::say_outcome(outcome);
             false
@@ -207,7 +217,12 @@ fn tell_open(fd: i32, name: &[u8], bytes: &mut [u8; 2097152], store: &mut [u8; 2
 }
 
 // Shows the light of a file, and answers whether it is whole.
-pub(crate) fn tell(name: &[u8], bytes: &mut [u8; 2097152], store: &mut [u8; 262140]) -> bool {
+pub(crate) fn tell(
+    reading: Reading,
+    name: &[u8],
+    bytes: &mut [u8; 2097152],
+    store: &mut [u8; 262140],
+) -> bool {
     say::name(name);
     say::text(b"\n");
     let fd = os::open_read(name);
@@ -215,7 +230,7 @@ pub(crate) fn tell(name: &[u8], bytes: &mut [u8; 2097152], store: &mut [u8; 2621
         name::say_unopened(os::errno());
         return false;
     }
-    let ok = tell_open(fd, name, bytes, store);
+    let ok = tell_open(reading, fd, name, bytes, store);
     libc::close(fd);
     ok
 }

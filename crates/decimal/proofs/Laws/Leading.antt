@@ -135,8 +135,8 @@ short : (m b j most : ℕ) → 0 < b → m < 256 → j ≤ most → 256 * b ^ mo
 unfolding Short
 short m b j most some h k low = lt-of-le-of-lt (le-trans (mul-le-mul-right (b ^ j) (le-of-lt h)) (mul-le-mul-left 256 (pow-le-pow-right some k))) low
 
-pub short-fifths : (m j : ℕ) → m < 256 → j ≤ 135 → Short (m * 5 ^ j)
-short-fifths m j h k = short m 5 j 135 (lit< tt) h k (lit< tt)
+pub short-fifths : (m j : ℕ) → m < 256 → j ≤ 136 → Short (m * 5 ^ j)
+short-fifths m j h k = short m 5 j 136 (lit< tt) h k (lit< tt)
 
 pub short-doubles : (m j : ℕ) → m < 256 → j ≤ 119 → Short (m * 2 ^ j)
 short-doubles m j h k = short m 2 j 119 (lit< tt) h k (lit< tt)

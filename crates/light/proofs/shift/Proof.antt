@@ -5,12 +5,12 @@ use native.Mathlib.Omega.{arith}
 use borrow.Author.Needs.{needs}
 use Rattle.steps.specs.declared.Reading.{Reading}
 use Rattle.pixel.specs.Rgbe.{shiftOf}
-use Rattle.pixel.proofs.Laws.Scales.{shift-most}
+use Rattle.pixel.proofs.Laws.Scales.{shift-least, shift-most}
 use Rattle.light.proofs.shift.Statement.{statement}
 use Rattle.light.proofs.shift.Tie as tie
 
-most : (reading : Reading) (e r : ℕ) → e < 256 → r ≡ shiftOf reading e → (r ≡ shiftOf reading e) × (r ≤ 268)
-most reading e r h is = (is, omega (arith, shift-most reading e h))
+within : (reading : Reading) (e r : ℕ) → e < 256 → r ≡ shiftOf reading e → (r ≡ shiftOf reading e) × ((13 ≤ r) × (r ≤ 268))
+within reading e r h is = (is, (omega (arith, shift-least reading e), omega (arith, shift-most reading e h)))
 
 shift-requires : tie.Need-shift-requires
 shift-requires c κs = search needs
@@ -19,7 +19,7 @@ cast-result : tie.Need-cast-result
 cast-result c = search needs
 
 returns : tie.Need-returns
-returns c = let a = c .before .args in most (a .reading) (a .e) _ (search needs) (c .shift .ensures)
+returns c = let a = c .before .args in within (a .reading) (a .e) _ (search needs) (c .shift .ensures)
 
 pub shift-spec : {M : Type 1} → statement M
 shift-spec = tie.close (tie.spec shift-requires cast-result returns)

@@ -39,6 +39,10 @@ pub scale-none : (reading : Reading) (e : ℕ) → e ≤ 0 → scaleOf reading e
 unfolding scaleOf
 scale-none reading e h = simp (eq-eqb e 0 (omega arith))
 
+pub shift-least : (reading : Reading) (e : ℕ) → 13 ≤ shiftOf reading e
+shift-least Crate e = omega (arith, crate-bounds e)
+shift-least Document e = omega arith
+
 pub shift-most : (reading : Reading) (e : ℕ) → e < 256 → shiftOf reading e ≤ 268
 shift-most Crate e h = omega (arith, crate-bounds e)
 shift-most Document e h = omega arith

@@ -1,5 +1,5 @@
 -- How much a row, a header and a power of two can be.
-use Prim.Native.Nat.{ℕ, _+_, _*_, _%_, _^_, _<_, _≤_}
+use Prim.Native.Nat.{ℕ, _+_, _-_, _*_, _%_, _^_, _<_, _≤_}
 use mathlib.Core.Bool.{_&&_}
 use mathlib.Core.List.{List}
 use mathlib.Core.Path.{_≡_, refl, _∙_}
@@ -11,8 +11,8 @@ use lib.Seq.{length-take-le}
 use lib.Dec.{leb}
 use lib.Pow.{pow-pos, pow-mono, shl-exact}
 use Rattle.steps.proofs.Laws.Turns.{by-test, and-right}
-use Rattle.pixel.specs.Rgbe.{crateShift}
-use Rattle.pixel.proofs.Laws.Scales.{crate-bounds}
+use Rattle.decimal.specs.Leading.{Short}
+use Rattle.decimal.proofs.Laws.Leading.{short-fifths, short-doubles}
 use Rattle.header.specs.Written.{written}
 use Rattle.header.proofs.Laws.Written.{written-length, digits-few}
 use Rattle.rows_written.specs.Row.{writtenRow, worstRow}
@@ -74,11 +74,11 @@ rest-less n unit h = mod-lt n h
 
 -- ---- Light
 
-pub shift-low : (e s : ℕ) → s ≡ crateShift e → 110 ≤ s
-shift-low e s k = rw k (crate-bounds e .0)
+pub dim-short : (m s : ℕ) → m < 256 → 13 ≤ s → Short (m * 5 ^ (149 - s))
+dim-short m s h k = short-fifths m (149 - s) h (omega arith)
 
-pub shift-high : (e s : ℕ) → s ≡ crateShift e → s ≤ 172
-shift-high e s k = rw k (crate-bounds e .1)
+pub bright-short : (m s : ℕ) → m < 256 → s ≤ 268 → Short (m * 2 ^ (s - 149))
+bright-short m s h k = short-doubles m (s - 149) h (omega arith)
 
 -- ---- A part of what is held
 

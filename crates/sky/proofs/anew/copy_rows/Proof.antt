@@ -7,10 +7,10 @@ use Rattle.sky.proofs.anew.copy_rows.Statement.{statement}
 use Rattle.sky.proofs.anew.copy_rows.Tie as tie
 
 abbrev Inv-loop : tie.InvT-loop
-Inv-loop fd to bytes₀ store₀ room₀ shown width height outcome₀ pen₀ k₀ bytes store room outcome pen k = (width ≤ 65535) × (height ≤ 65535) × (k ≤ height) × (pen .put ≤ 262144) × Ended outcome
+Inv-loop reading fd to bytes₀ store₀ room₀ shown width height outcome₀ pen₀ k₀ bytes store room outcome pen k = (width ≤ 65535) × (height ≤ 65535) × (k ≤ height) × (pen .put ≤ 262144) × Ended outcome
 
 abbrev μ-loop : tie.MeasureT-loop
-μ-loop fd to bytes₀ store₀ room₀ shown width height outcome₀ pen₀ k₀ bytes store room outcome pen k = height - k
+μ-loop reading fd to bytes₀ store₀ room₀ shown width height outcome₀ pen₀ k₀ bytes store room outcome pen k = height - k
 
 loop-holds : tie.Need-loop-holds Inv-loop μ-loop
 loop-holds c = search needs

@@ -5,10 +5,10 @@ use Rattle.sky.proofs.ask.tell_all.Statement.{statement}
 use Rattle.sky.proofs.ask.tell_all.Tie as tie
 
 abbrev Inv-loop : tie.InvT-loop
-Inv-loop form from bytes₀ store₀ count tally₀ i₀ bytes store tally i = Unit {0}
+Inv-loop reading form from bytes₀ store₀ count tally₀ i₀ bytes store tally i = Unit {0}
 
 abbrev μ-loop : tie.MeasureT-loop
-μ-loop form from bytes₀ store₀ count tally₀ i₀ bytes store tally i = count - i
+μ-loop reading form from bytes₀ store₀ count tally₀ i₀ bytes store tally i = count - i
 
 arg-count-requires : tie.Need-arg-count-requires Inv-loop μ-loop
 arg-count-requires c κs = search needs

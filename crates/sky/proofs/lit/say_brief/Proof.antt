@@ -1,6 +1,5 @@
--- `sky::lit::say_brief` is safe: the powers of the crate reading are few.
+-- `sky::lit::say_brief` is safe.
 use borrow.Author.Needs.{needs}
-use Rattle.sky.proofs.Laws.Room.{shift-low, shift-high}
 use Rattle.sky.proofs.lit.say_brief.Statement.{statement}
 use Rattle.sky.proofs.lit.say_brief.Tie as tie
 
@@ -23,7 +22,7 @@ shift-requires : tie.Need-shift-requires
 shift-requires c κs = search needs
 
 say-decimal-requires : tie.Need-say-decimal-requires
-say-decimal-requires c κs = (search needs, search shift-low, search shift-high)
+say-decimal-requires c κs = search needs
 
 returns-2 : tie.Need-returns-2
 returns-2 c = search needs

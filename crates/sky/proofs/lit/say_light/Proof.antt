@@ -1,6 +1,5 @@
--- `sky::lit::say_light` is safe: the powers of the crate reading are few.
+-- `sky::lit::say_light` is safe.
 use borrow.Author.Needs.{needs}
-use Rattle.sky.proofs.Laws.Room.{shift-low, shift-high}
 use Rattle.sky.proofs.lit.say_light.Statement.{statement}
 use Rattle.sky.proofs.lit.say_light.Tie as tie
 
@@ -26,7 +25,7 @@ shift-requires : tie.Need-shift-requires
 shift-requires c κs = search needs
 
 say-decimal-requires : tie.Need-say-decimal-requires
-say-decimal-requires c κs = (search needs, search shift-low, search shift-high)
+say-decimal-requires c κs = search needs
 
 slice-aggregate-text-2 : tie.Need-slice-aggregate-text-2
 slice-aggregate-text-2 c = search needs

@@ -8,11 +8,11 @@ use Rattle.sky.proofs.rows.read_rows.Statement.{statement}
 use Rattle.sky.proofs.rows.read_rows.Tie as tie
 
 abbrev Inv-loop : tie.InvT-loop
-Inv-loop fd bytes₀ store₀ shown width height found₀ k₀ bytes store found k =
+Inv-loop reading fd bytes₀ store₀ shown width height found₀ k₀ bytes store found k =
     (width ≤ 65535) × (height ≤ 65535) × (k ≤ height) × (found .totals .black ≤ k * 65535) × (found .totals .masked ≤ k * 65535) × (found .length ≤ k * 262144) × Ended (found .outcome)
 
 abbrev μ-loop : tie.MeasureT-loop
-μ-loop fd bytes₀ store₀ shown width height found₀ k₀ bytes store found k = height - k
+μ-loop reading fd bytes₀ store₀ shown width height found₀ k₀ bytes store found k = height - k
 
 nothing-requires : tie.Need-nothing-requires Inv-loop μ-loop
 nothing-requires c κs = search needs

@@ -7,10 +7,10 @@ use Rattle.sky.proofs.stops.count_rows.Statement.{statement}
 use Rattle.sky.proofs.stops.count_rows.Tie as tie
 
 abbrev Inv-loop : tie.InvT-loop
-Inv-loop fd bytes₀ store₀ counts₀ shown width height outcome₀ k₀ bytes store counts outcome k = (width ≤ 65535) × (height ≤ 65535) × (k ≤ height) × Ended outcome
+Inv-loop reading fd bytes₀ store₀ counts₀ shown width height outcome₀ k₀ bytes store counts outcome k = (width ≤ 65535) × (height ≤ 65535) × (k ≤ height) × Ended outcome
 
 abbrev μ-loop : tie.MeasureT-loop
-μ-loop fd bytes₀ store₀ counts₀ shown width height outcome₀ k₀ bytes store counts outcome k = height - k
+μ-loop reading fd bytes₀ store₀ counts₀ shown width height outcome₀ k₀ bytes store counts outcome k = height - k
 
 loop-holds : tie.Need-loop-holds Inv-loop μ-loop
 loop-holds c = search needs
