@@ -15,6 +15,7 @@ use Rattle.pixel.specs.declared.Rgbe.{Rgbe}
 use Rattle.steps.specs.declared.Taken.the-variants.{Done}
 use Rattle.flat_read.specs.Flat.{FlatRule, isRepeat, crateFlat, flatOf}
 use Rattle.steps.proofs.Laws.Width.{width-narrow, width-wide}
+use Rattle.steps.specs.declared.Reading.the-variants.{Crate}
 use Rattle.rows_read.specs.Row.{isFlatWidth, isMark, crateStart, crateRow}
 use Rattle.flat_read.proofs.Laws.Flat.{NoRepeat, flat-starts}
 use Rattle.rows_read.proofs.Laws.Row.{mark-not, kind-flat, kind-pixel, early-other, early-two, start-flat, start-pixel, row-by-width, row-flat, row-pixel}
@@ -114,7 +115,7 @@ module _ (src : List ℕ) (at : ℕ) (store rest : List ℕ) where
 
   -- widths 1 to 7 and over 32,767
   pub flat-by-width : (qs : List Rgbe) → (length qs < 8) ⊎ (32767 < length qs) → NoOldRun qs → drop at src ≡ flatBytes qs ++ rest → BothRead src at store qs rest
-  flat-by-width qs h none e = both qs none e (row-by-width src at store (length qs) true (flat-width (length qs) h) _ refl (part-there crateFlat src at store 0 qs rest none e))
+  flat-by-width qs h none e = both qs none e (row-by-width Crate src at store (length qs) true (flat-width (length qs) h) _ refl (part-there crateFlat src at store 0 qs rest none e))
 
   -- other widths
   module _ (q : Rgbe) (qs : List Rgbe) (wide : 8 ≤ length (q ∷ qs)) (short : length (q ∷ qs) ≤ 32767) (none : NoOldRun (q ∷ qs)) (e : drop at src ≡ flatBytes (q ∷ qs) ++ rest) where
@@ -126,7 +127,7 @@ module _ (src : List ℕ) (at : ℕ) (store rest : List ℕ) where
         let no-two : getD src at 0 ≡ 2 → ⊥ = λ h. other (sym (first .1) ∙ h) in
         let kind = kind-flat src at (first .0) no-two in
         both (q ∷ qs) none e
-        (row-flat src at store w false (coded-width w wide short) refl _ store kind (start-flat src at _ kind store store refl (early-other src at store no-two)) _ refl
+        (row-flat Crate src at store w false (coded-width w wide short) refl _ store kind (start-flat src at _ kind store store refl (early-other src at store no-two)) _ refl
         (part-there crateFlat src at store 0 (q ∷ qs) rest none e))
 
     -- it is 2, but the four bytes are no mark
@@ -152,7 +153,7 @@ module _ (src : List ℕ) (at : ℕ) (store rest : List ℕ) where
         let last : at + 4 - 1 ≡ at + 3 = omega arith in
         let starts : first ≡ crateStart src at store = rw (place, last, m0 .1 ∙ is) at start in
         let part : (Done (at + 4 + 4 * n), spread 1 first 4 (flatBytes qs)) ≡ flatOf crateFlat src (at + 4) first 4 (w - 1) = rw left (part-there crateFlat src (at + 4) first 4 qs rest (none .1) (rw four at (m3 .2))) in
-        let row = row-pixel src at store w false (coded-width w wide short) refl _ first kind starts _ (at + 4) refl part in
+        let row = row-pixel Crate src at store w false (coded-width w wide short) refl _ first kind starts _ (at + 4) refl part in
         let stored : spread 1 store 0 (flatBytes (q ∷ qs)) ≡ spread 1 first 4 (flatBytes qs) = rw (m1 .1, third, fourth, is) (pixel-stored store 2 (q .g) (q .b) (q .e) (flatBytes qs)) in
         let ends : at + 4 * w ≡ at + 4 + 4 * n = omega arith in
         both (q ∷ qs) none e (ap (λ (i : ℕ). (Done i, spread 1 store 0 (flatBytes (q ∷ qs)))) ends ∙ ap (λ (l : List ℕ). (Done (at + 4 + 4 * n), l)) stored ∙ row)

@@ -1,5 +1,5 @@
 -- Where the bytes at a place are a scanline by the document, a row takes just those bytes and leaves the document's pixels in the store, by any
--- reading of which holds what `back` asks; the crate's is the first.
+-- rule of which holds what `back` asks: both readings.
 use mathlib.Core.Bool.{_&&_}
 use mathlib.Core.List.{List, [], _∷_, _++_, append-assoc, append-nil}
 use mathlib.Core.Option.{some, Option·none-ne-some, Option·some-injective}
@@ -14,10 +14,11 @@ use Rattle.steps.proofs.Laws.Place.{bytes-there}
 use Rattle.steps.proofs.Laws.Turns.{and-left, and-right}
 use Rattle.pixel.specs.declared.Rgbe.{Rgbe}
 use Rattle.steps.specs.declared.Taken.the-variants.{Done}
-use Rattle.rows_read.specs.Row.{RowRule, RowParts, rowBy, crateParts, crateRow}
+use Rattle.steps.specs.declared.Reading.{Reading}
+use Rattle.rows_read.specs.Row.{RowRule, RowParts, rowBy, partsOf, rowOf}
 use Rattle.channels_written.specs.Channel.{channel}
 use Rattle.back.proofs.Laws.Channel.{ReadAs}
-use Rattle.back.proofs.Laws.Row.{FourRead, Reading, marked-there, crate-reading}
+use Rattle.back.proofs.Laws.Row.{FourRead, Fit, marked-there, reading-fit}
 use Rattle.kept.specs.Radiance.{component, pixels, components, mark, past, coded, flatBytes}
 use Rattle.kept.proofs.Laws.RadianceComponent.{found-then, found-if, component-read}
 
@@ -75,23 +76,23 @@ past-there (x ∷ xs) (b ∷ bytes) r e =
     let same = found-if (eqb b x) (past xs bytes) r e in
     ap (λ (i : ℕ). i ∷ bytes) (eqb-true b x (same .0)) ∙ ap (λ (l : List ℕ). x ∷ l) (past-there xs bytes r (same .1))
 
-module _ (parts : RowParts) (reading : Reading parts) where
+module _ (parts : RowParts) (fit : Fit parts) where
   marked-read : (src : List ℕ) (at : ℕ) (store : List ℕ) (w : ℕ) (rs gs bs es c0 c1 c2 c3 rest : List ℕ) → length rs ≡ w → length gs ≡ w → length bs ≡ w → length es ≡ w
-      → ReadAs (reading .counts) w c0 rs → ReadAs (reading .counts) w c1 gs → ReadAs (reading .counts) w c2 bs → ReadAs (reading .counts) w c3 es → 8 ≤ w → w ≤ 32767 → drop at src ≡ mark w ++ (c0 ++ (c1 ++ (c2 ++ (c3 ++ rest))))
+      → ReadAs (fit .counts) w c0 rs → ReadAs (fit .counts) w c1 gs → ReadAs (fit .counts) w c2 bs → ReadAs (fit .counts) w c3 es → 8 ≤ w → w ≤ 32767 → drop at src ≡ mark w ++ (c0 ++ (c1 ++ (c2 ++ (c3 ++ rest))))
       → RowReads (rowBy parts) src at store w (pixels rs gs bs es) rest
   marked-read src at store w rs gs bs es c0 c1 c2 c3 rest h0 h1 h2 h3 r0 r1 r2 r3 l h e =
       let px : List ℕ = flatBytes (pixels rs gs bs es) in
       let is = woven w rs gs bs es h0 h1 h2 h3 in
-      let four : FourRead (reading .counts) px 0 w c0 c1 c2 c3 = (
-        subst (ReadAs (reading .counts) w c0) (sym (is .0)) r0,
-        subst (ReadAs (reading .counts) w c1) (sym (is .1)) r1,
-        subst (ReadAs (reading .counts) w c2) (sym (is .2)) r2,
-        subst (ReadAs (reading .counts) w c3) (sym (is .3)) r3,
+      let four : FourRead (fit .counts) px 0 w c0 c1 c2 c3 = (
+        subst (ReadAs (fit .counts) w c0) (sym (is .0)) r0,
+        subst (ReadAs (fit .counts) w c1) (sym (is .1)) r1,
+        subst (ReadAs (fit .counts) w c2) (sym (is .2)) r2,
+        subst (ReadAs (fit .counts) w c3) (sym (is .3)) r3,
       ) in (
         mark w ++ (c0 ++ (c1 ++ (c2 ++ c3))),
         e ∙ simp append-assoc,
         is .4,
-        sym (marked-there parts reading w src px 0 c0 c1 c2 c3 four at store rest l h e)
+        sym (marked-there parts fit w src px 0 c0 c1 c2 c3 four at store rest l h e)
             ∙ ap (λ (l : List ℕ). (Done (at + length (mark w ++ (c0 ++ (c1 ++ (c2 ++ c3))))), spread 1 store 0 l)) (all-bytes px (4 * w) (is .4)),
       )
 
@@ -104,10 +105,10 @@ module _ (parts : RowParts) (reading : Reading parts) where
       let green = found-then (component w (red .0 .1)) _ r (red .2) in
       let blue = found-then (component w (green .0 .1)) _ r (green .2) in
       let exponent = found-then (component w (blue .0 .1)) _ r (blue .2) in
-      let f0 = component-read (reading .counts) (reading .whole) w _ (red .0) (red .1) in
-      let f1 = component-read (reading .counts) (reading .whole) w _ (green .0) (green .1) in
-      let f2 = component-read (reading .counts) (reading .whole) w _ (blue .0) (blue .1) in
-      let f3 = component-read (reading .counts) (reading .whole) w _ (exponent .0) (exponent .1) in
+      let f0 = component-read (fit .counts) (fit .whole) w _ (red .0) (red .1) in
+      let f1 = component-read (fit .counts) (fit .whole) w _ (green .0) (green .1) in
+      let f2 = component-read (fit .counts) (fit .whole) w _ (blue .0) (blue .1) in
+      let f3 = component-read (fit .counts) (fit .whole) w _ (exponent .0) (exponent .1) in
       let there : drop at src ≡ mark w ++ (f0 .0 ++ (f1 .0 ++ (f2 .0 ++ (f3 .0 ++ exponent .0 .1)))) =
       past-there (mark w) (drop at src) (marked .0) (marked .1)
       ∙ ap (λ (l : List ℕ). mark w ++ l) (f0 .1 ∙ ap (λ (l : List ℕ). f0 .0 ++ l) (f1 .1 ∙ ap (λ (l : List ℕ). f1 .0 ++ l) (f2 .1 ∙ ap (λ (l : List ℕ). f2 .0 ++ l) (f3 .1)))) in
@@ -115,7 +116,7 @@ module _ (parts : RowParts) (reading : Reading parts) where
       (marked-read src at store w (red .0 .0) (green .0 .0) (blue .0 .0) (exponent .0 .0) (f0 .0) (f1 .0) (f2 .0) (f3 .0) (exponent .0 .1) (f0 .2) (f1 .2) (f2 .2) (f3 .2) (f0 .3) (f1 .3) (f2 .3) (f3 .3)
       (leb-true 8 w (and-left (leb 8 w) _ (wide .0))) (leb-true w 32767 (and-right (leb 8 w) _ (wide .0))) there)
 
--- by the crate reading
-pub coded-read : (src : List ℕ) (at : ℕ) (store : List ℕ) (w : ℕ) (r : List Rgbe × List ℕ) → coded w (drop at src) ≡ some r → RowReads crateRow src at store w (r .0) (r .1)
-unfolding crateRow
-coded-read = coded-read-by crateParts crate-reading
+-- by either reading
+pub coded-read : (reading : Reading) (src : List ℕ) (at : ℕ) (store : List ℕ) (w : ℕ) (r : List Rgbe × List ℕ) → coded w (drop at src) ≡ some r → RowReads (rowOf reading) src at store w (r .0) (r .1)
+unfolding rowOf
+coded-read reading = coded-read-by (partsOf reading) (reading-fit reading)

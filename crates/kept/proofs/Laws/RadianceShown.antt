@@ -16,7 +16,8 @@ use Rattle.steps.specs.declared.Taken.the-variants.{Done}
 use Rattle.pixel.specs.declared.Rgbe.{Rgbe}
 use Rattle.flat_read.specs.Flat.{isRepeat, crateFlat, flatOf}
 use Rattle.flat_read.proofs.Laws.Flat.{NoRepeat, repeat-not-0, crate-plain}
-use Rattle.rows_read.specs.Row.{isFlatWidth, isMark, kindOf, restBy, rowBy, crateStart, crateParts, crateRow}
+use Rattle.steps.specs.declared.Reading.the-variants.{Crate}
+use Rattle.rows_read.specs.Row.{isFlatWidth, isMark, kindOf, restBy, rowBy, crateStart, partsOf, rowOf, crateRow}
 use Rattle.rows_read.proofs.Laws.Row.{Marked, kind-cases, not-flat}
 use Rattle.back.proofs.Laws.Row.{coded-width}
 use Rattle.kept.specs.Radiance.{rgbe, flatBytes, NoOldRun}
@@ -106,10 +107,10 @@ module _ (src : List ℕ) (at : ℕ) (store : List ℕ) where
     part : (store : List ℕ) (w : ℕ) → 0 < w → flatOf crateFlat src at store 0 w ≡ (Done next, s) → Stand src at w
     part store w h e = let p = crate-plain src at store 0 w .upto next (taken _ e) in (omega (arith, p .0, p .1 h), p .2)
 
-    by-kind : (n : ℕ) → isFlatWidth (suc n) ≡ false → (Marked src at → ⊥) → restBy crateParts src at (suc n) (kindOf src at) (crateStart src at store) ≡ (Done next, s) → Explained src at store (suc n)
-    unfolding crateParts
+    by-kind : (n : ℕ) → isFlatWidth (suc n) ≡ false → (Marked src at → ⊥) → restBy (partsOf Crate) src at (suc n) (kindOf src at) (crateStart src at store) ≡ (Done next, s) → Explained src at store (suc n)
+    unfolding partsOf
     by-kind n t other =
-        kind-cases src at (λ z. z ≡ kindOf src at → restBy crateParts src at (suc n) z (crateStart src at store) ≡ (Done next, s) → Explained src at store (suc n))
+        kind-cases src at (λ z. z ≡ kindOf src at → restBy (partsOf Crate) src at (suc n) z (crateStart src at store) ≡ (Done next, s) → Explained src at store (suc n))
         (λ ek e. fault-done 9 next _ s e)
         (λ h f ek e. by-first n t (part (crateStart src at store) (suc n) (omega arith) e) f)
         (λ h f m ek e. absurd (other ek))
@@ -121,7 +122,7 @@ module _ (src : List ℕ) (at : ℕ) (store : List ℕ) where
 
     -- the crate reading shows no flat row but the document's
     pub flat-explained : (w : ℕ) → 0 < w → (isFlatWidth w ≡ false → Marked src at → ⊥) → crateRow src at store w ≡ (Done next, s) → Explained src at store w
-    unfolding crateRow rowBy crateParts
+    unfolding rowOf rowBy partsOf
     flat-explained zero h other e = absurd (omega arith)
     flat-explained (suc n) h other e = go (isFlatWidth (suc n)) refl
       where

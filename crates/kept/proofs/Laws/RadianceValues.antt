@@ -6,8 +6,8 @@ use native.Mathlib.Omega.{arith}
 use borrow.Author.Tests.{ne-eqb}
 use lib.Pow.{pow-add}
 use Rattle.pixel.specs.Units.{ofUnits}
-use Rattle.pixel.specs.Rgbe.{crateUnits}
-use Rattle.loss.specs.Document.{Alike, docScale, docUnits}
+use Rattle.pixel.specs.Rgbe.{scaleOf, unitsOf, crateUnits, docUnits}
+use Rattle.loss.specs.Document.{Alike}
 use Rattle.loss.proofs.Laws.Values.{values-agree, values-differ, floats-agree, floats-differ}
 use Rattle.kept.specs.Radiance.{middleUnits}
 
@@ -22,7 +22,7 @@ floats-exactly m e h k l = (floats-agree m e, floats-differ m e h k l)
 -- ---- Ward's reader
 
 pub middle-black : (m : ℕ) → middleUnits m 0 ≡ docUnits m 0
-unfolding middleUnits docUnits docScale
+unfolding middleUnits unitsOf scaleOf
 middle-black m = sym (mul-zero m)
 
 odd : (m half : ℕ) → (2 * m + 1) * half ≡ m * (half * 2) + half
@@ -30,7 +30,7 @@ odd m half = omega (arith, add-mul (2 * m) 1 half, mul-assoc 2 m half, mul-assoc
 
 -- the middle of the step: half of 2^(E+13) above the lower edge
 pub middle-above : (m e : ℕ) → 0 < e → middleUnits m e ≡ docUnits m e + 2 ^ (e + 12)
-unfolding middleUnits docUnits docScale
+unfolding middleUnits unitsOf scaleOf
 middle-above m e h =
     let some : e ≡ 0 → ⊥ = λ z. omega arith in
     let step : 2 ^ (e + 13) ≡ 2 ^ (e + 12) * 2 = ap (λ (k : ℕ). 2 ^ k) (omega arith) ∙ pow-add 2 (e + 12) 1 in
