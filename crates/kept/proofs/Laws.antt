@@ -23,6 +23,9 @@ pub mod RadianceValues
 pub mod RadianceComponent
 pub mod RadianceRows
 pub mod RadianceFlat
+pub mod RadianceOldRuns
+pub mod RadianceScanline
+pub mod RadianceRead
 pub mod RadianceWritten
 pub mod RadianceShown
 pub mod RadianceApart

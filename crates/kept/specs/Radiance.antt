@@ -132,6 +132,20 @@ flatFrom (r ∷ g ∷ b ∷ e ∷ bytes) before weight (suc wanted) = onward (me
 abbrev pub flat : ℕ → List ℕ → Found (List Rgbe)
 flat n bytes = flatFrom bytes none 1 n
 
+-- ---- A scanline, of either form
+
+-- "2, 2, high byte and low byte of the length": four bytes that begin a new run-length scanline. The high byte of 32,767 is 127
+unfoldable pub isNew : List ℕ → Bool
+isNew [] = false
+isNew (first ∷ []) = false
+isNew (first ∷ second ∷ []) = false
+isNew (first ∷ second ∷ high ∷ []) = false
+isNew (first ∷ second ∷ high ∷ low ∷ bytes) = eqb first 2 && (eqb second 2 && ltb high 128)
+
+-- the scanline of n pixels: at "lengths 8 to 32,767" one that begins so is a new run-length scanline, whose length must be n; any other is flat
+unfoldable pub scanline : ℕ → List ℕ → Found (List Rgbe)
+scanline n bytes = pick ((leb 8 n && leb n 32767) && isNew bytes) (coded n bytes) (flat n bytes)
+
 -- ---- Pixels as bytes
 
 -- "four bytes to a pixel, one after another"

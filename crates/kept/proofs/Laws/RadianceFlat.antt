@@ -35,7 +35,7 @@ nothing-more (r ∷ g ∷ b ∷ []) before weight = refl
 nothing-more (r ∷ g ∷ b ∷ e ∷ bytes) before weight = refl
 
 -- an ordinary pixel stands for itself
-itself : (p : Rgbe) (before : Option Rgbe) (weight : ℕ) → isOldRun p ≡ false → meaning before weight p ≡ some (p ∷ [], p, 1)
+pub itself : (p : Rgbe) (before : Option Rgbe) (weight : ℕ) → isOldRun p ≡ false → meaning before weight p ≡ some (p ∷ [], p, 1)
 unfolding meaning
 itself p before weight h = simp h
 
