@@ -7,14 +7,14 @@ use Rattle.channels_read.proofs.read_channel.Tie as tie
 enum-told : tie.Need-enum-told
 enum-told c = search needs
 
-read-crate-requires : tie.Need-read-crate-requires
-read-crate-requires c κs = search needs
+read-requires : tie.Need-read-requires
+read-requires c κs = search needs
 
 enum-told-2 : tie.Need-enum-told-2
 enum-told-2 c = search needs
 
-read-document-requires : tie.Need-read-document-requires
-read-document-requires c κs = search needs
+read-requires-2 : tie.Need-read-requires-2
+read-requires-2 c κs = search needs
 
 same-length : tie.Need-same-length
 same-length c = search needs
@@ -33,9 +33,9 @@ read-channel-spec =
     tie.close
     (tie.spec
     enum-told
-    read-crate-requires
+    read-requires
     enum-told-2
-    read-document-requires
+    read-requires-2
     same-length
     returns
     same-length-2

@@ -1,8 +1,8 @@
--- `channels_read::lacks` meets its contract.
+-- `channels_read::document::lacks` meets its contract.
 use borrow.Author.Needs.{needs}
 use Rattle.channels_read.proofs.Laws.Channel.{lacks-run, lacks-literals}
-use Rattle.channels_read.proofs.lacks.Statement.{statement}
-use Rattle.channels_read.proofs.lacks.Tie as tie
+use Rattle.channels_read.proofs.document.lacks.Statement.{statement}
+use Rattle.channels_read.proofs.document.lacks.Tie as tie
 
 add-there : tie.Need-add-there
 add-there c = search needs

@@ -1,8 +1,8 @@
--- `channels_read::put_lacking` meets its contract: each `return` is a case of `lacking`.
+-- `channels_read::document::put_lacking` meets its contract: each `return` is a case of `lacking`.
 use borrow.Author.Needs.{needs}
 use Rattle.channels_read.proofs.Laws.Channel.{put-none, put-some}
-use Rattle.channels_read.proofs.put_lacking.Statement.{statement}
-use Rattle.channels_read.proofs.put_lacking.Tie as tie
+use Rattle.channels_read.proofs.document.put_lacking.Statement.{statement}
+use Rattle.channels_read.proofs.document.put_lacking.Tie as tie
 
 returns : tie.Need-returns
 returns c = search put-none

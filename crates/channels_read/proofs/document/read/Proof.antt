@@ -1,4 +1,4 @@
--- `channels_read::read_document` meets its contract. The invariant: the definition gives from here what it gives from the start.
+-- `channels_read::document::read` meets its contract. The invariant: the definition gives from here what it gives from the start.
 use borrow.Author.Needs.{needs}
 use mathlib.Core.Path.{_≡_}
 use Prim.Native.Nat.{_-_}
@@ -6,8 +6,8 @@ use lib.ListN.{length}
 use Rattle.steps.proofs.Laws.Loop.{Runs, runs-halt}
 use Rattle.channels_read.specs.Channel.{chan, documentCount, channelOf, channelTurn, channelOut}
 use Rattle.channels_read.proofs.Laws.Channel.{channel-starts, turn-done, turn-short, span-less, lacking-room, document-again, document-fault, document-short}
-use Rattle.channels_read.proofs.read_document.Statement.{statement}
-use Rattle.channels_read.proofs.read_document.Tie as tie
+use Rattle.channels_read.proofs.document.read.Statement.{statement}
+use Rattle.channels_read.proofs.document.read.Tie as tie
 
 abbrev Inv-loop : tie.InvT-loop
 Inv-loop src at store₀ channel width p₀ done₀ store p done =
@@ -70,8 +70,8 @@ same-length-4 c = search needs
 returns-4 : tie.Need-returns-4 Inv-loop μ-loop
 returns-4 c = search (runs-halt, turn-done)
 
-pub read-document-spec : {M : Type 1} → statement M
-read-document-spec =
+pub read-spec : {M : Type 1} → statement M
+read-spec =
     tie.close
     (tie.spec
     Inv-loop

@@ -1,4 +1,4 @@
--- `channels_read::read_crate` meets its contract. The invariant: the definition gives from here what it gives from the start.
+-- `channels_read::crate_part::read` meets its contract. The invariant: the definition gives from here what it gives from the start.
 use borrow.Author.Needs.{needs}
 use mathlib.Core.Path.{_≡_}
 use Prim.Native.Nat.{_-_}
@@ -6,8 +6,8 @@ use lib.ListN.{length}
 use Rattle.steps.proofs.Laws.Loop.{Runs, runs-halt}
 use Rattle.channels_read.specs.Channel.{chan, crateCount, channelOf, channelTurn, channelOut}
 use Rattle.channels_read.proofs.Laws.Channel.{channel-starts, turn-done, turn-short, span-less, crate-again}
-use Rattle.channels_read.proofs.read_crate.Statement.{statement}
-use Rattle.channels_read.proofs.read_crate.Tie as tie
+use Rattle.channels_read.proofs.crate_part.read.Statement.{statement}
+use Rattle.channels_read.proofs.crate_part.read.Tie as tie
 
 abbrev Inv-loop : tie.InvT-loop
 Inv-loop src at store₀ channel width p₀ done₀ store p done =
@@ -55,8 +55,8 @@ same-length-2 c = search needs
 returns-2 : tie.Need-returns-2 Inv-loop μ-loop
 returns-2 c = search (runs-halt, turn-done)
 
-pub read-crate-spec : {M : Type 1} → statement M
-read-crate-spec =
+pub read-spec : {M : Type 1} → statement M
+read-spec =
     tie.close
     (tie.spec
     Inv-loop
