@@ -31,3 +31,4 @@ pub mod RadianceShown
 pub mod RadianceApart
 pub mod Starts
 pub mod EveryCut
+pub mod LeastDocument

@@ -1,7 +1,8 @@
--- How few bytes hold the rows of a picture.
+-- How few bytes hold the rows of a picture, by the crate reading and by the document reading.
 use Prim.Native.Nat.{ℕ, _+_, _*_, _-_, _/_, _<_}
 use mathlib.Core.List.{List}
 use lib.ListN.{getD}
+use lib.Dec.{ltb}
 use Rattle.steps.specs.Loop.{pick}
 use Rattle.rows_read.specs.Row.{isFlatWidth}
 
@@ -20,3 +21,12 @@ codedLeast width = 4 + 8 * countsOf width
 -- four bytes for each pixel of a flat row; where rows may be coded, the last of them may lack one
 abbrev pub leastOf : ℕ → ℕ → ℕ
 leastOf width height = pick (isFlatWidth width) (height * (4 * width)) (height * codedLeast width - 1)
+
+-- ---- By the document reading, which copies pixels
+
+-- a row: a pixel, a 1,1,1,n for at most 255 copies of it, and one directly behind that for at most 255 times 256; a coded row takes 12 too
+abbrev pub rowLeast : ℕ → ℕ
+rowLeast width = pick (ltb width 2) 4 (pick (ltb width 257) 8 12)
+
+abbrev pub documentLeast : ℕ → ℕ → ℕ
+documentLeast width height = height * rowLeast width

@@ -4,7 +4,7 @@ use Prim.Native.Nat.{ℕ, _+_, _-_, _*_, min, _<_, _≤_}
 use native.Mathlib.Omega.{arith}
 use mathlib.Core.Bool.{Bool, true, false}
 use mathlib.Core.List.{List}
-use mathlib.Core.Path.{_≡_, refl, sym, ap, _∙_}
+use mathlib.Core.Path.{_≡_, refl, sym, ap, subst, _∙_}
 use borrow.Author.Tests.{lt-ltb, le-ltb, ltb-true, ltb-false}
 use lib.Dec.{ltb}
 use lib.ListN.{length, getD, replicate}
@@ -134,6 +134,29 @@ module _ (src : List ℕ) (p done width c n : ℕ) (ec : c ≡ getD src p 0) (en
         let short = ltb-true (behind src p) (spanTaken c n) (sym eb ∙ t) in
         let most : spanTaken c n ≤ n = rw en (taken-most c) in
         omega arith
+
+-- a span is all that its count asks for, and all of it is there
+pub document-spans : (src : List ℕ) (at done width k : ℕ) → at < length src → documentCount src at done width ≡ span k
+    → (k ≡ spanLength (getD src at 0)) × (at + 1 + spanTaken (getD src at 0) k ≤ length src)
+unfolding documentCount
+document-spans src at done width k l =
+    let c : ℕ = getD src at 0 in
+    let n : ℕ = spanLength c in
+    by-test L (ltb (width - done) n) (λ t e. absurd (no-span 14 k e))
+    (λ t. by-test L (ltb (behind src at) (spanTaken c n))
+    (λ u. by-test L (isRun c) (λ _ e. absurd (no-span 9 k e)) (λ _ e. absurd (no-short _ k e)))
+    (λ u e. let is : n ≡ k = cc in
+    let there = ltb-false (behind src at) (spanTaken c n) u in
+    (sym is, subst (λ (i : ℕ). at + 1 + spanTaken c i ≤ length src) is (omega arith))))
+  where
+    L : Count → Type 0
+    L z = z ≡ span k → (k ≡ spanLength (getD src at 0)) × (at + 1 + spanTaken (getD src at 0) k ≤ length src)
+
+    no-span : (number k : ℕ) → _≡_ {A = Count} (fault number) (span k) → ⊥
+    no-span number k e = let z : _≡_ {A = ℕ} 0 1 = cc in omega arith
+
+    no-short : (n k : ℕ) → _≡_ {A = Count} (short n) (span k) → ⊥
+    no-short n k e = let z : _≡_ {A = ℕ} 0 1 = cc in omega arith
 
 pub document-whole : TakesWhole documentCount
 document-whole src at done width c n ec en h k = document-span src at done width c n ec en (omega arith) false (sym (le-ltb (behind src at) (spanTaken c n) (omega arith))) refl

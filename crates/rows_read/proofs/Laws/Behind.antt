@@ -15,7 +15,7 @@ use Rattle.steps.specs.declared.Reading.{Reading}
 use Rattle.steps.specs.declared.Reading.the-variants.{Crate, Document}
 use Rattle.steps.proofs.Laws.Turns.{by-test}
 use Rattle.channels_read.specs.Channel.{Count, span, fault, short, isRun, spanLength, spanTaken, behind, lacking, crateCount, documentCount, countRule}
-use Rattle.channels_read.proofs.Laws.Channel.{document-past, document-lacks, document-span}
+use Rattle.channels_read.proofs.Laws.Channel.{document-past, document-lacks, document-span, document-spans}
 use Rattle.flat_read.specs.Flat.{Flat, timesOf, documentOnes, crateFlat, documentFlat, flatRule}
 use Rattle.rows_read.specs.declared.kind.Kind.{Kind}
 use Rattle.rows_read.specs.declared.kind.Kind.the-variants as kind
@@ -147,27 +147,6 @@ pub crate-count-alone : CountAlone 1 crateCount
 unfolding crateCount
 crate-count-alone = record { whole = λ src at done width k l e h. omega arith; same = λ src other n at done width alike h sure. rw (byte-same src other n alike at h) }
 
-document-count-whole : (src : List ℕ) (at done width k : ℕ) → at < length src → documentCount src at done width ≡ span k → at + 1 + spanTaken (getD src at 0) k ≤ length src
-unfolding documentCount
-document-count-whole src at done width k l =
-    let c : ℕ = getD src at 0 in
-    let n : ℕ = spanLength c in
-    by-test L (ltb (width - done) n) (λ t e. absurd (no-span 14 k e))
-    (λ t. by-test L (ltb (behind src at) (spanTaken c n))
-    (λ u. by-test L (isRun c) (λ _ e. absurd (no-span 9 k e)) (λ _ e. absurd (no-short _ k e)))
-    (λ u e. let is : n ≡ k = cc in
-    let there = ltb-false (behind src at) (spanTaken c n) u in
-    subst (λ (i : ℕ). at + 1 + spanTaken c i ≤ length src) is (omega arith)))
-  where
-    L : Count → Type 0
-    L z = z ≡ span k → at + 1 + spanTaken (getD src at 0) k ≤ length src
-
-    no-span : (number k : ℕ) → _≡_ {A = Count} (fault number) (span k) → ⊥
-    no-span number k e = let z : _≡_ {A = ℕ} 0 1 = cc in omega arith
-
-    no-short : (n k : ℕ) → _≡_ {A = Count} (short n) (span k) → ⊥
-    no-short n k e = let z : _≡_ {A = ℕ} 0 1 = cc in omega arith
-
 module _ (src other : List ℕ) (n at done width : ℕ) (alike : Alike n src other) (h : at < n) (c m : ℕ) (ec : c ≡ getD src at 0) (em : m ≡ spanLength c) where
   here : c ≡ getD other at 0
   here = ec ∙ sym (byte-same src other n alike at h)
@@ -191,7 +170,7 @@ module _ (src other : List ℕ) (n at done width : ℕ) (alike : Alike n src oth
 
 document-count-alone : CountAlone 0 documentCount
 document-count-alone = record {
-  whole = λ src at done width k l e h. document-count-whole src at done width k l e;
+  whole = λ src at done width k l e h. document-spans src at done width k l e .1;
   same = λ src other n at done width alike h sure. document-count-same src other n at done width alike h (getD src at 0) (spanLength (getD src at 0)) refl refl sure;
 }
 
