@@ -25,6 +25,8 @@ pub mod RadianceRows
 pub mod RadianceFlat
 pub mod RadianceOldRuns
 pub mod RadianceScanline
+pub mod RadianceCounts
+pub mod RadianceChannels
 pub mod RadianceRead
 pub mod RadianceWritten
 pub mod RadianceShown

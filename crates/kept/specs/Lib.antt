@@ -9,3 +9,4 @@ pub mod Lent
 pub mod Skies
 pub mod Shown
 pub mod Radiance
+pub mod RadianceZero

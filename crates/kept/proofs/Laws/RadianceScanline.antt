@@ -24,7 +24,7 @@ use Rattle.kept.specs.Radiance.{isNew}
 
 module _ (src : List ℕ) (at : ℕ) where
   -- four bytes are there, and they are a mark for both
-  new-four : (bytes : List ℕ) → drop at src ≡ bytes → isNew bytes ≡ true → (at + 4 ≤ length src) × (getD src at 0 ≡ 2) × (isMark (getD src (at + 1) 0) (getD src (at + 2) 0) ≡ true)
+  pub new-four : (bytes : List ℕ) → drop at src ≡ bytes → isNew bytes ≡ true → (at + 4 ≤ length src) × (getD src at 0 ≡ 2) × (isMark (getD src (at + 1) 0) (getD src (at + 2) 0) ≡ true)
   unfolding isNew isMark
   new-four [] e t = absurd (false≢true t)
   new-four (x ∷ []) e t = absurd (false≢true t)

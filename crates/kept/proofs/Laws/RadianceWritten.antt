@@ -30,7 +30,7 @@ use Rattle.kept.proofs.Laws.RadianceFlat.{flat-found, length-flat}
 -- ---- Counts
 
 -- one count more
-spans-step : (counts n c : ℕ) (bytes : List ℕ) (u r : List ℕ × List ℕ) → span c bytes ≡ some u → length (u .0) ≤ suc n → spans counts (suc n - length (u .0)) (u .1) ≡ some r
+pub spans-step : (counts n c : ℕ) (bytes : List ℕ) (u r : List ℕ × List ℕ) → span c bytes ≡ some u → length (u .0) ≤ suc n → spans counts (suc n - length (u .0)) (u .1) ≡ some r
     → spans (suc counts) (suc n) (c ∷ bytes) ≡ some (u .0 ++ r .0, r .1)
 unfolding spans
 spans-step counts n c bytes u r e h rest =
@@ -50,7 +50,7 @@ spans-more (suc counts) (suc n) (c ∷ bytes) r e =
     let others = found-after (one .0 .0) (spans counts (suc n - length (one .0 .0)) (one .0 .1)) r (fits .1) in
     spans-step (suc counts) n c bytes (one .0) (others .0) (one .1) (leb-true _ _ (fits .0)) (spans-more counts _ _ (others .0) (others .1)) ∙ ap some (others .2)
 
-spans-add : (more counts n : ℕ) (bytes : List ℕ) (r : List ℕ × List ℕ) → spans counts n bytes ≡ some r → spans (more + counts) n bytes ≡ some r
+pub spans-add : (more counts n : ℕ) (bytes : List ℕ) (r : List ℕ × List ℕ) → spans counts n bytes ≡ some r → spans (more + counts) n bytes ≡ some r
 spans-add zero counts n bytes r e = ap (λ (k : ℕ). spans k n bytes) (zero-add counts) ∙ e
 spans-add (suc more) counts n bytes r e =
     let next : suc more + counts ≡ suc (more + counts) = omega arith in
@@ -136,7 +136,7 @@ row-bytes px at (suc n) =
 
 -- ---- A coded row
 
-past-found : (xs bytes : List ℕ) → past xs (xs ++ bytes) ≡ some (tt, bytes)
+pub past-found : (xs bytes : List ℕ) → past xs (xs ++ bytes) ≡ some (tt, bytes)
 unfolding past
 past-found [] bytes = refl
 past-found (x ∷ xs) bytes = simp (eq-eqb x x refl) (past-found xs bytes)
