@@ -28,6 +28,7 @@ pub mod RadianceScanline
 pub mod RadianceCounts
 pub mod RadianceChannels
 pub mod RadianceRead
+pub mod RadianceZero
 pub mod RadianceWritten
 pub mod RadianceShown
 pub mod RadianceApart

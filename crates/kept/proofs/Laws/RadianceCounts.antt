@@ -39,7 +39,7 @@ unfolding span isOver
 run-found c x l h = simp (lt-ltb 128 c h)
 
 -- where all the bytes are there that a count asks for, it is one by the document too
-span-found : (src : List ℕ) (c p n : ℕ) → n ≡ spanLength c → 0 < c → p + spanTaken c n ≤ length src → (ys : List ℕ) × (length ys ≡ n) × (span c (drop p src) ≡ some (ys, drop (p + spanTaken c n) src))
+pub span-found : (src : List ℕ) (c p n : ℕ) → n ≡ spanLength c → 0 < c → p + spanTaken c n ≤ length src → (ys : List ℕ) × (length ys ≡ n) × (span c (drop p src) ≡ some (ys, drop (p + spanTaken c n) src))
 span-found src c p n en h room =
     by-order 128 c
     (λ l. let one = taken-run c n l in
@@ -58,7 +58,7 @@ span-found src c p n en h room =
     ))
 
 -- what the document reading finds of a count that it takes
-counted : (src : List ℕ) (at done width n : ℕ) → documentCount src at done width ≡ read.span n → (n ≡ spanLength (getD src at 0)) × (n ≤ width - done) × (spanTaken (getD src at 0) n ≤ length src - (at + 1))
+pub counted : (src : List ℕ) (at done width n : ℕ) → documentCount src at done width ≡ read.span n → (n ≡ spanLength (getD src at 0)) × (n ≤ width - done) × (spanTaken (getD src at 0) n ≤ length src - (at + 1))
 unfolding documentCount
 counted src at done width n =
     by-test L (ltb (width - done) m) (λ t e. let no : _≡_ {A = ℕ} 0 1 = cc in absurd (omega arith))

@@ -68,7 +68,7 @@ all-bytes px n h = ap (bytesFrom px 0) (sym h) ∙ bytes-there px 0 px [] (sym (
 
 -- ---- A new run-length scanline
 
-past-there : (xs bytes : List ℕ) (r : Unit {0} × List ℕ) → past xs bytes ≡ some r → bytes ≡ xs ++ r .1
+pub past-there : (xs bytes : List ℕ) (r : Unit {0} × List ℕ) → past xs bytes ≡ some r → bytes ≡ xs ++ r .1
 unfolding past
 past-there [] bytes r e = ap (λ (z : Unit {0} × List ℕ). z .1) (Option·some-injective _ _ e)
 past-there (x ∷ xs) [] r e = absurd (Option·none-ne-some _ e)
