@@ -59,6 +59,9 @@ fn help() -> bool {
         b"  ./sky stops FILE..           how many pixels have their light in each power of two, as a chart\n",
     );
     say::text(b"  ./sky copy IN OUT [--force]  the picture of IN, written anew to OUT\n");
+    say::text(
+        b"  ./sky info --crate FILE..    as zune-hdr reads; stops and copy take --crate too\n",
+    );
     say::text(b"  ./sky help                   this text, as --help and -h\n");
     say::text(b"  ./sky --version              the version, and the kit that proved it\n\n");
     help_reading();
@@ -69,21 +72,21 @@ fn help() -> bool {
 // How files are read, and what light is.
 fn help_reading() {
     say::text(
-        b"Files are read by the Radiance document. With --crate, which info, stops and copy take, they are\n",
+        b"Files are read by the Radiance document; with --crate as zune-hdr reads them, which shows light at\n",
     );
     say::text(
-        b"read as zune-hdr reads them: other light outside the exponents 97-159, no old runs, broken rows shown.\n",
+        b"another brightness outside the exponents 97-159 and broken rows as some picture, and has no old runs.\n",
     );
     say::text(
-        b"A pixel's light is its largest sample; where it has many digits, its first nine and a power of ten.\n",
+        b"A pixel's light is its largest sample, in decimal: exactly, or if it is very small or large its first\n",
     );
     say::text(
-        b"'outside 97-159' counts the pixels that show light and that zune-hdr shows at another brightness.\n",
+        b"nine digits and a power of ten. 'outside 97-159' counts the pixels that show light and that zune-hdr\n",
     );
     say::text(
-        b"The chart of 'stops' goes by the Radiance document, darkest first; '|' marks light from\n",
+        b"shows at another brightness. The chart of 'stops' goes by the Radiance document, darkest first; '|'\n",
     );
-    say::text(b"2^-32 to below 2^31, which zune-hdr shows as it is.\n");
+    say::text(b"marks light from 2^-32 to below 2^31, which zune-hdr shows as it is.\n");
 }
 
 // What a copy is, and how an answer ends.
