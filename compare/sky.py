@@ -21,61 +21,80 @@ failures = []
 checked = 0
 
 
-# ---- RULES 4: rows read
+# ---- RULES 4: rows read, by the document or as the crate zune-hdr reads them
+
+DOCUMENT, CRATE = (), ("--crate",)
 
 
 class Fault(Exception):
     """A row at fault: the number of the refusal."""
 
 
-def channel(src, at, store, first, width):
+def channel(reading, src, at, store, first, width):
     done = 0
     while done < width:
         if at >= len(src):
             raise Fault(9)
         count = src[at]
         at += 1
-        n = min(count - 128 if count > 128 else count, width - done)
-        if count > 128:
-            values = bytes([src[at] if at < len(src) else 0]) * n
-            at = min(at + 1, len(src))
-        else:
-            values = src[at : at + n].ljust(n, b"\0")
-            at = min(at + n, len(src))
-        store[first + 4 * done : first + 4 * (done + n) : 4] = values
+        n = count - 128 if count > 128 else count
+        if n > width - done:
+            if reading == DOCUMENT:
+                raise Fault(14)
+            n = width - done
+        wanted = 1 if count > 128 else n
+        values = src[at : at + wanted]
+        if len(values) < wanted and reading == DOCUMENT:
+            raise Fault(9)
+        at += len(values)
+        values = values.ljust(wanted, b"\0")
+        store[first + 4 * done : first + 4 * (done + n) : 4] = values * n if count > 128 else values
         done += n
     return at
 
 
-def flat(src, at, store, start, wanted):
-    for place in range(start, start + 4 * wanted, 4):
+def flat(reading, src, at, store, place, wanted):
+    repeats = 0
+    while wanted:
         four = src[at : at + 4]
-        store[place : place + len(four)] = four
         if len(four) < 4:
             raise Fault(9)
+        n = 1
         if four[:3] == b"\1\1\1":
-            raise Fault(25)
+            if reading == CRATE:
+                raise Fault(25)
+            n = four[3] * 256**repeats
+            if place == 0 or n > wanted:
+                raise Fault(14)
+            four = store[place - 4 : place]
+            repeats += 1
+        else:
+            repeats = 0
+        store[place : place + 4 * n] = four * n
+        place += 4 * n
+        wanted -= n
         at += 4
     return at
 
 
-def read_row(src, at, store, width):
+def read_row(reading, src, at, store, width):
     if width < 8 or width > 32767:
-        return flat(src, at, store, 0, width)
+        return flat(reading, src, at, store, 0, width)
     if at >= len(src):
         raise Fault(9)
     if src[at] != 2:
-        return flat(src, at, store, 0, width)
+        return flat(reading, src, at, store, 0, width)
     four = src[at : at + 4]
-    store[1 : len(four[:3])] = four[1:3]
     if len(four) < 4:
         raise Fault(9)
     if four[1] != 2 or four[2] >= 128:
         store[0:4] = four
-        return flat(src, at + 4, store, 4, width - 1)
+        return flat(reading, src, at + 4, store, 4, width - 1)
+    if reading == DOCUMENT and 256 * four[2] + four[3] != width:
+        raise Fault(14)
     at += 4
     for first in range(4):
-        at = channel(src, at, store, first, width)
+        at = channel(reading, src, at, store, first, width)
     return at
 
 
@@ -125,15 +144,17 @@ def worst(width, height):
     return len(header(width, height)) + height * row
 
 
-# ---- Light, as the crate reading shows it
+# ---- Light, as a reading shows it
 
 
-def light(four):
+def light(reading, four):
     m, e = max(four[:3]), four[3]
     if e == 0 or m == 0:
         return (0, 0)
     d = e - 128
-    return (m, (d % 32 if d > 0 else -((-d) % 32)) - 8)
+    if reading == CRATE:
+        d = d % 32 if d > 0 else -((-d) % 32)
+    return (m, d - 8)
 
 
 def value(lit):
@@ -141,7 +162,16 @@ def value(lit):
 
 
 def decimal(lit):
+    """Exactly from 2^-39 to below 2^63, else the first nine digits and a power of ten."""
     x = value(lit)
+    if not -39 <= lit[1] <= 55:
+        power = 0
+        while x >= 10:
+            x, power = x / 10, power + 1
+        while x < 1:
+            x, power = x * 10, power - 1
+        text = str(int(x * 10**8))
+        return "%s.%se%d" % (text[0], text[1:], power)
     digits = x.denominator.bit_length() - 1
     text = str(x.numerator * 10**digits // x.denominator).rjust(digits + 1, "0")
     return text if digits == 0 else text[:-digits] + "." + text[-digits:]
@@ -150,13 +180,14 @@ def decimal(lit):
 class Survey:
     """What is asked of the pixels of a file; `times` rows may be alike."""
 
-    def __init__(self):
+    def __init__(self, reading):
+        self.reading = reading
         self.black = self.outside = self.length = 0
         self.darkest = self.brightest = None
 
     def row(self, store, width, times=1):
         for q in (bytes(store[i : i + 4]) for i in range(0, 4 * width, 4)):
-            lit = light(q)
+            lit = light(self.reading, q)
             if lit[0] == 0:
                 self.black += times
                 continue
@@ -206,11 +237,11 @@ def refused(name, number="-", row="-", width="-", height="-"):
     return "\t".join(map(str, ["refused", number, row, width, height] + ["-"] * 5 + [name]))
 
 
-def stops(name, file, width, height, start):
+def stops(reading, name, file, width, height, start):
     """The lines of `stops` for a whole file: light as the Radiance document has it, (2m + 1) 2^(E - 137)."""
     store, at, counts, black = bytearray(4 * width), start, {}, 0
     for _ in range(height):
-        at = read_row(file, at, store, width)
+        at = read_row(reading, file, at, store, width)
         for q in (store[i : i + 4] for i in range(0, 4 * width, 4)):
             if max(q[:3]) == 0 or q[3] == 0:
                 black += 1
@@ -227,12 +258,12 @@ def stops(name, file, width, height, start):
     return lines + ["  black pixels     %d" % black]
 
 
-def answer(name, file, width, height, start):
+def answer(name, file, width, height, start, reading=DOCUMENT):
     """The lines of `info` for a file whose header takes `start` bytes, read by the rules. A refusal's sentence is left open."""
-    store, at, survey = bytearray(4 * width), start, Survey()
+    store, at, survey = bytearray(4 * width), start, Survey(reading)
     for row in range(height):
         try:
-            at = read_row(file, at, store, width)
+            at = read_row(reading, file, at, store, width)
         except Fault as fault:
             return [name, "  refused          number %d in row %d (the first row is 0): *" % (*fault.args, row)]
         survey.row(store, width)
@@ -316,7 +347,7 @@ def large(kind):
     rows = [pixels(rng, width, kind) for _ in range(32)]
     coded = [write_row(row, width) for row in rows]
     data = keep(kind + ".hdr", header(width, height) + b"".join(coded) * 64)
-    survey = Survey()
+    survey = Survey(DOCUMENT)
     for row in rows:
         survey.row(row, width, 64)
     start = time.monotonic()
@@ -340,13 +371,18 @@ def wide():
     expect("wide info", answer("wide.hdr", data, width, 3, len(header(width, 3))), 0, "info", "wide.hdr")
     run("copy", "wide.hdr", "wide2.hdr")
     check("wide copied bytes", load("wide2.hdr") == data[:-3])
-    old = keep("old.hdr", b"#?RGBE\n\n-Y 1 +X 4\n" + bytes([10, 10, 10, 129, 20, 20, 20, 129, 1, 1, 1, 2]))
+    one, two = bytes([10, 10, 10, 129]), bytes([20, 20, 20, 129])
+    old = keep("old.hdr", b"#?RGBE\n\n-Y 1 +X 4\n" + one + two + bytes([1, 1, 1, 2]))
     refused = ["old.hdr", "  refused          number 25 in row 0 (the first row is 0): an old run, *"]
-    expect("old runs info", refused, 1, "info", "old.hdr")
-    expect("old runs copy", refused, 1, "copy", "old.hdr", "old2.hdr")
+    expect("old runs info", answer("old.hdr", old, 4, 1, 18), 0, "info", "old.hdr")
+    expect("old runs info --crate", refused, 1, "info", "--crate", "old.hdr")
+    expect("old runs copy --crate", refused, 1, "copy", "old.hdr", "--crate", "old2.hdr")
     check("old runs left nothing", not there("old2.hdr") and not parts())
+    run("copy", "old.hdr", "old2.hdr")
+    check("old runs copied", load("old2.hdr") == header(4, 1) + one + two * 3)
     keep("old.hdr", old[:-1])
-    expect("old run without its last byte", answer("old.hdr", old[:-1], 4, 1, 18), 1, "info", "old.hdr")
+    for reading in (DOCUMENT, CRATE):
+        expect(" ".join(("old run without its last byte", *reading)), answer("old.hdr", old[:-1], 4, 1, 18, reading), 1, "info", *reading, "old.hdr")
     coded = keep("ones.hdr", header(8, 1) + bytes([2, 2, 0, 8]) + bytes([136, 1]) * 3 + bytes([136, 130]))
     expect("1,1,1,n in a coded row", answer("ones.hdr", coded, 8, 1, len(header(8, 1))), 0, "info", "ones.hdr")
     run("copy", "ones.hdr", "ones2.hdr")
@@ -359,13 +395,13 @@ def cut():
     start = b"#?RGBE\nEXPOSURE=2\n\n+X 9 -Y 3\n"
     first = pixels(rng, width, "noisy")
     file = start + write_row(first, width) + b"\2\3\4\5" + pixels(rng, 8, "noisy") + b"\2\2\0\11" + b"\211\1\0\211\2\4abcd\205e\211\200"
-    names, want = [], []
+    names = []
     for end in range(len(start), len(file) + 1):
         names.append("cut%d.hdr" % end)
         keep(names[-1], file[:end])
-        want += answer(names[-1], file[:end], width, height, len(start))
-    refused = any("refused" in line for line in want)
-    expect("cut at every byte", want, 1 if refused else 0, "info", *names)
+    for reading in (DOCUMENT, CRATE):
+        want = [line for name in names for line in answer(name, load(name), width, height, len(start), reading)]
+        expect(" ".join(("cut at every byte", *reading)), want, 1, "info", *reading, *names)
 
 
 def headers():
@@ -398,8 +434,8 @@ def long_rows():
     filled = tail[:4] + b"\0" * (PART - 1 - len(tail)) + tail[4:]
     longer = tail[:4] + b"\0" * (PART - len(tail)) + tail[4:]
     store = bytearray(4 * width)
-    read_row(tail, 0, store, width)
-    survey = Survey()
+    read_row(DOCUMENT, tail, 0, store, width)
+    survey = Survey(DOCUMENT)
     survey.row(store, width, 40)
     for name, rows, lost in (("most", [tail] * 19 + [filled] * 3 + [tail] * 18, None), ("over", [tail] * 19 + [filled, longer] + [tail] * 19, 20)):
         data = keep(name, start + b"".join(rows))
@@ -436,7 +472,7 @@ def copies():
     keep("small.hdr", source)
     at, file = len(header(9, 2)), header(9, 2)
     for _ in range(2):
-        at = read_row(source, at, anew, 9)
+        at = read_row(DOCUMENT, source, at, anew, 9)
         file += write_row(anew, 9)
     run("copy", "small.hdr", "new.hdr")
     check("copy", load("new.hdr") == file)
@@ -658,16 +694,84 @@ def charts():
     every = b"".join(bytes([1 << rng.randrange(8), 0, rng.randrange(256), e]) for e in range(256)) + bytes([0, 0, 0, 200]) * 9
     keep("every.hdr", header(265, 1) + write_row(every, 265))
     for name, width, height in (("small.hdr", 9, 2), ("wide.hdr", 40000, 3), ("every.hdr", 265, 1), ("black.hdr", 8, 1)):
-        expect("stops " + name, stops(name, load(name), width, height, len(header(width, height))), 0, "stops", name)
-    expect("stops none.hdr", stops("none.hdr", load("none.hdr"), 3, 0, 22), 0, "stops", "none.hdr")
+        for reading in (DOCUMENT, CRATE):
+            expect(" ".join(("stops", *reading, name)), stops(reading, name, load(name), width, height, len(header(width, height))), 0, "stops", *reading, name)
+    expect("stops none.hdr", stops(DOCUMENT, "none.hdr", load("none.hdr"), 3, 0, 22), 0, "stops", "none.hdr")
     expect("stops torn.hdr", ["torn.hdr", "  refused          number 9 in row 0 (the first row is 0): *"], 1, "stops", "torn.hdr")
     expect("stops of no file", ["sky: stops wants a file*"], 1, "stops")
+
+
+def broken():
+    """Rows that the document has no reading of, each by its number, and what the crate shows of them."""
+    rows = {
+        "mark": (8, b"\2\2\0\11" + b"\210\1" * 4),
+        "run": (8, b"\2\2\0\10" + b"\211\1" * 4),
+        "literals": (8, b"\2\2\0\10" + b"\204\1\5abcde" * 4),
+        "count": (8, b"\2\2\0\10\211"),
+        "run-byte": (8, b"\2\2\0\10\210"),
+        "nothing": (8, b"\2\2\0\10" + b"\0\0\210\1" * 4),
+        "start": (4, b"\1\1\1\0" + b"abcd" * 4),
+        "start-cut": (4, b"\1\1\1"),
+        "start-two": (9, b"\2\3\4\5\1\1\1\10"),
+        "past": (4, b"abcd\1\1\1\4"),
+        "second": (4, b"abcd\1\1\1\0\1\1\1\1"),
+        "again": (600, b"abcd\1\1\1\0\1\1\1\2" + b"efgh" * 87),
+        "apart": (600, b"abcd\1\1\1\2efgh\1\1\1\2" + b"efgh" * 594),
+        "third": (600, b"abcd\1\1\1\0\1\1\1\0\1\1\1\1"),
+    }
+    for reading in (DOCUMENT, CRATE):
+        for name, (width, row) in rows.items():
+            data = keep(name, header(width, 1) + row)
+            want = answer(name, data, width, 1, len(header(width, 1)), reading)
+            expect(" ".join((name, *reading)), want, 1 if "refused" in want[1] else 0, "info", *reading, name)
+    want = ["mark", "  refused          number 14 in row 0 (the first row is 0): the row is broken: *"]
+    expect("a broken row in words", want, 1, "info", "mark")
+    expect("a broken row is not copied", want, 1, "copy", "mark", "mark2.hdr")
+    run("copy", "--crate", "mark", "mark2.hdr")
+    check("but as the crate shows it", load("mark2.hdr") == header(8, 1) + b"\2\2\0\10" + b"\210\1" * 4)
+
+
+def scattered():
+    """Small files of bytes that often mean something, by both readings."""
+    rng, names = random.Random(23), []
+    for k in range(400):
+        width, height = rng.choice((1, 3, 7, 8, 9, 20)), rng.randrange(1, 4)
+        bytes_of = (0, 1, 1, 1, 2, 2, width, 128, 129, 130, 128 + width, rng.randrange(256))
+        rows = b"".join(
+            rng.choice((b"", b"\2\2\0" + bytes([width]), pixels(rng, width, "noisy"))) + bytes(rng.choice(bytes_of) for _ in range(rng.randrange(5 * width)))
+            for _ in range(height)
+        )
+        names.append(("scattered%d" % k, width, height))
+        keep(names[-1][0], header(width, height) + rows)
+    for reading in (DOCUMENT, CRATE):
+        want = [line for name, w, h in names for line in answer(name, load(name), w, h, len(header(w, h)), reading)]
+        expect(" ".join(("scattered bytes", *reading)), want, 1, "info", *reading, *(name for name, _, _ in names))
+        check(" ".join(("of which some are whole", *reading)), 10 < sum(line.startswith("  at worst") for line in want) < 390)
+
+
+def lights():
+    """Light from the darkest to the brightest that a pixel can have."""
+    names = []
+    for e in range(256):
+        for m in (1, 128, 177, 255):
+            names.append("light-%d-%d" % (m, e))
+            keep(names[-1], header(1, 1) + bytes([m, 0, 0, e]))
+    for reading in (DOCUMENT, CRATE):
+        want = [line for name in names for line in answer(name, load(name), 1, 1, len(header(1, 1)), reading)]
+        expect(" ".join(("every light", *reading)), want, 0, "info", *reading, *names)
+    for order in (("--brief", "--crate"), ("--crate", "--brief")):
+        got, status, _ = run("info", *order, names[-1], "small.hdr")
+        want = [whole(answer(name, load(name), w, h, len(header(w, h)), CRATE)) for name, w, h in ((names[-1], 1, 1), ("small.hdr", 9, 2))]
+        check("a table by " + " ".join(order), got == ["\t".join(NAMES)] + want + [""] and status == 0)
 
 
 def main():
     copies()
     words()
     cut()
+    broken()
+    scattered()
+    lights()
     headers()
     wide()
     long_rows()
