@@ -1,12 +1,12 @@
 -- The cut that the crate reading does not refuse, of a whole file: its last row is coded, and the bytes end inside what that row's last count asks for.
 -- And that the document reading refuses every cut.
-use Prim.Native.Nat.{ℕ, zero, suc, _+_, _*_, _<_, _≤_}
+use Prim.Native.Nat.{ℕ, _+_, _*_, _<_, _≤_}
 use mathlib.Core.List.{List, _++_}
 use mathlib.Core.Logic.{_⊎_}
 use mathlib.Core.Path.{_≡_}
 use lib.Ieee.{Float}
 use lib.ListN.{length, take}
-use Rattle.steps.specs.Loop.{more}
+use Rattle.steps.specs.Loop.{Turns}
 use Rattle.steps.specs.Answer.{Answer, done, refused}
 use Rattle.steps.specs.declared.Reading.the-variants.{Document}
 use Rattle.header.specs.declared.Head.{Head}
@@ -19,8 +19,7 @@ use Rattle.kept.specs.Lent.{before, RowsRead}
 
 -- after n rows more, from x on, the reader is at y
 abbrev pub AfterRows : List ℕ → Stored → ℕ → Rows → Rows → Type 0
-AfterRows bytes stored zero x y = x ≡ y
-AfterRows bytes stored (suc n) x y = (z : Rows) × (rowTurn crateRow cratePixel bytes stored x ≡ more z) × AfterRows bytes stored n z y
+AfterRows bytes stored = Turns (rowTurn crateRow cratePixel bytes stored)
 
 pub record CutFile (bytes : List ℕ) (widest highest : ℕ) (out : List Float) (store : List ℕ) : Type 0 where
   -- the checks 1 to 8 pass

@@ -2,18 +2,13 @@
 use mathlib.Core.Bool.{true}
 use mathlib.Core.List.{List}
 use mathlib.Core.Path.{_≡_}
-use Prim.Native.Nat.{ℕ, zero, suc, _+_, _<_}
+use Prim.Native.Nat.{ℕ, _+_, _<_}
 use lib.ListN.{length, getD, drop}
-use Rattle.steps.specs.Loop.{Turn, more}
+use Rattle.steps.specs.Loop.{Turns}
 use Rattle.steps.specs.Width.{isCoded}
 use Rattle.channels_read.specs.Channel.{Chan, chan, documentCount, channelTurn}
 use Rattle.channels_read.specs.Channels.{chans, chansTurn}
 use Rattle.kept.specs.Radiance.{isNew}
-
--- n turns from x on lead to y
-abbrev pub Turns : {S A : Type 0} → (S → Turn S A) → ℕ → S → S → Type 0
-Turns turn zero x y = x ≡ y
-Turns {S} turn (suc n) x y = (z : S) × (turn x ≡ more z) × Turns turn n z y
 
 -- at x the channel still wants bytes, and its next count is 0
 pub record ZeroAt (src : List ℕ) (width : ℕ) (x : Chan) : Type 0 where

@@ -1,10 +1,10 @@
 -- The cut that is not refused: bytes that end inside what the last count of a coded row asks for.
-use Prim.Native.Nat.{ℕ, zero, suc, _+_, _-_, _<_, _≤_}
+use Prim.Native.Nat.{ℕ, _+_, _-_, _<_, _≤_}
 use mathlib.Core.Bool.{false}
 use mathlib.Core.List.{List, _++_}
 use mathlib.Core.Path.{_≡_}
 use lib.ListN.{length, getD, drop, replicate}
-use Rattle.steps.specs.Loop.{more}
+use Rattle.steps.specs.Loop.{Turns}
 use Rattle.steps.specs.declared.Taken.the-variants.{Done}
 use Rattle.channels_read.specs.Channel.{Chan, chan, crateCount, spanLength, spanTaken, channelTurn, channelOf}
 use Rattle.rows_read.specs.declared.kind.Kind.the-variants.{Channels}
@@ -12,8 +12,7 @@ use Rattle.rows_read.specs.Row.{isFlatWidth, kindOf, crateStart}
 
 -- after n counts of a channel, from x on, the channel is at y
 abbrev pub After : List ℕ → ℕ → ℕ → ℕ → Chan → Chan → Type 0
-After src channel width zero x y = x ≡ y
-After src channel width (suc n) x y = (z : Chan) × (channelTurn crateCount src channel width x ≡ more z) × After src channel width n z y
+After src channel width = Turns (channelTurn crateCount src channel width)
 
 -- At x stands a count that asks for all that the channel still wants, and the input ends before more than that: of a run the byte is missing;
 -- of literals any number may be missing, all or none of them too.

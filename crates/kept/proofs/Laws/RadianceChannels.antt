@@ -10,7 +10,7 @@ use borrow.Author.Tests.{lt-ltb, eqb-true}
 use lib.Dec.{eqb}
 use lib.ListN.{length, getD, drop}
 use lib.Seq.{drop-cons}
-use Rattle.steps.specs.Loop.{more}
+use Rattle.steps.specs.Loop.{Turns, more}
 use Rattle.steps.specs.Width.{isCoded}
 use Rattle.steps.proofs.Laws.Taken.{fault-done}
 use Rattle.steps.proofs.Laws.Turns.{and-left}
@@ -25,7 +25,7 @@ use Rattle.rows_read.specs.Row.{isFlatWidth, isMark, documentMark, documentRow}
 use Rattle.rows_read.proofs.Laws.Row.{Marked, marked-whole, marked-right, marked-wrong, row-marked}
 use Rattle.kept.specs.Least.{AreBytes}
 use Rattle.kept.specs.Radiance.{Found, andThen, pixels, components, mark, past, isNew, coded}
-use Rattle.kept.specs.RadianceZero.{Turns, ZeroRow}
+use Rattle.kept.specs.RadianceZero.{ZeroRow}
 use Rattle.kept.proofs.Laws.RadianceCounts.{Zero, component-or}
 use Rattle.kept.proofs.Laws.RadianceScanline.{new-four, new-marked}
 use Rattle.kept.proofs.Laws.RadianceWritten.{past-found}

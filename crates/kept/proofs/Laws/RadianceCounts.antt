@@ -10,7 +10,7 @@ use borrow.Author.Tests.{lt-ltb, le-ltb, le-leb, ltb-false}
 use lib.Dec.{ltb}
 use lib.ListN.{length, getD, take, drop, replicate, length-take, length-drop, length-replicate}
 use lib.Seq.{drop-cons, drop-drop}
-use Rattle.steps.specs.Loop.{Turn, more, run, lead}
+use Rattle.steps.specs.Loop.{Turns, Turn, more, run, lead}
 use Rattle.steps.proofs.Laws.Order.{by-order}
 use Rattle.steps.proofs.Laws.Taken.{fault-done}
 use Rattle.steps.proofs.Laws.Turns.{by-test}
@@ -20,7 +20,7 @@ use Rattle.channels_read.specs.Channel as read
 use Rattle.channels_read.specs.Channel.{Chan, chan, Count, documentCount, isRun, spanLength, spanTaken, spanOf, channelTurn, channelOut, channelOf}
 use Rattle.channels_read.proofs.Laws.Channel.{length-run, length-literals, taken-run, taken-literals, channel-cases}
 use Rattle.kept.specs.Radiance.{isOver, span, spans, component}
-use Rattle.kept.specs.RadianceZero.{Turns, ZeroAt}
+use Rattle.kept.specs.RadianceZero.{ZeroAt}
 use Rattle.kept.proofs.Laws.RadianceWritten.{spans-step, spans-add}
 
 -- ---- One count

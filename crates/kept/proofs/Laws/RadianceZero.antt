@@ -9,7 +9,7 @@ use native.Mathlib.Omega.{arith}
 use lib.Dec.{leb}
 use lib.ListN.{length, getD, drop}
 use lib.Seq.{drop-cons}
-use Rattle.steps.specs.Loop.{pick, Turn, more}
+use Rattle.steps.specs.Loop.{Turns, pick, Turn, more}
 use Rattle.steps.specs.Width.{isCoded}
 use Rattle.steps.proofs.Laws.Order.{by-order}
 use Rattle.steps.proofs.Laws.Place.{drop-past}
@@ -22,7 +22,7 @@ use Rattle.channels_read.proofs.Laws.Channel.{channel-cases}
 use Rattle.channels_read.proofs.Laws.Channels.{chans-cases}
 use Rattle.pixel.specs.declared.Rgbe.{Rgbe}
 use Rattle.kept.specs.Radiance.{Found, after, andThen, isOver, span, spans, component, components, mark, past, coded, scanline}
-use Rattle.kept.specs.RadianceZero.{Turns, ZeroAt, ZeroRow}
+use Rattle.kept.specs.RadianceZero.{ZeroAt, ZeroRow}
 use Rattle.kept.proofs.Laws.RadianceRows.{past-there}
 use Rattle.kept.proofs.Laws.RadianceCounts.{Zero, counted, span-found, component-or}
 
