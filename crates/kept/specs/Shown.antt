@@ -71,10 +71,10 @@ shown =
     (replicate 24 (whole 1 1)) (replicate 32 7)
     (refused 9 0)
     (replicate 24 (whole 1 1)) (lit 129 ++ (lit 129 ++ unlit 6))
-    -- 4: by the document reading a run of 9 in a row of 8 is refused by 14
-    ∷ reads Document (file [] (rows (digit 1) (digit 8)) ++ (2 ∷ 2 ∷ 0 ∷ 8 ∷ 137 ∷ 128 ∷ [])) (replicate 24 (whole 1 1)) (replicate 32 7) (refused 14 0) (replicate 24 (whole 1 1)) (replicate 32 0)
-    -- 5: and so is a mark of 9
+    -- 4: by the document reading a mark of 9 in a row of 8 is refused by 14
     ∷ reads Document (file [] (rows (digit 1) (digit 8)) ++ (2 ∷ 2 ∷ 0 ∷ 9 ∷ [])) (replicate 24 (whole 1 1)) (replicate 32 7) (refused 14 0) (replicate 24 (whole 1 1)) (replicate 32 0)
+    -- 5: and so is a run of 9
+    ∷ reads Document (file [] (rows (digit 1) (digit 8)) ++ (2 ∷ 2 ∷ 0 ∷ 8 ∷ 137 ∷ 128 ∷ [])) (replicate 24 (whole 1 1)) (replicate 32 7) (refused 14 0) (replicate 24 (whole 1 1)) (replicate 32 0)
     -- 6: +X 2 -Y 2 and pixels 1, 2, 3, 4 are rows 1 2 and 3 4
     ∷ reads Crate (file [] (columns (digit 2) (digit 2)) ++ (1 ∷ 0 ∷ 0 ∷ 136 ∷ 2 ∷ 0 ∷ 0 ∷ 136 ∷ 3 ∷ 0 ∷ 0 ∷ 136 ∷ 4 ∷ 0 ∷ 0 ∷ 136 ∷ []))
     (replicate 12 (whole 1 1)) (replicate 8 7)
