@@ -134,7 +134,7 @@ fn read_bytes(
 
 // `read` and `readd MAXW MAXH OUTLEN STORELEN BYTES`, the fields from OUTLEN on from `at` on.
 pub(crate) fn read(
-    reading: Reading,
+    by: Reading,
     line: &[u8],
     at: usize,
     widest: usize,
@@ -166,7 +166,7 @@ pub(crate) fn read(
     let out = &mut samples[..room];
     let store = &mut lent[..kept];
     read_bytes(
-        reading,
+        by,
         line,
         next,
         widest,
