@@ -152,7 +152,7 @@ pub(crate) fn read(
     let Pair::Both {
         a: room,
         b: kept,
-        next,
+        next: at,
     } = lengths
     else {
         return print::unknown(page, put);
@@ -165,16 +165,5 @@ pub(crate) fn read(
     }
     let out = &mut samples[..room];
     let store = &mut lent[..kept];
-    read_bytes(
-        by,
-        line,
-        next,
-        widest,
-        highest,
-        bytes,
-        out,
-        store,
-        page,
-        put,
-    )
+    read_bytes(by, line, at, widest, highest, bytes, out, store, page, put)
 }
