@@ -39,6 +39,11 @@ fn parsed(fields: &[&str]) -> Option<Answer> {
         }
         ["head", w, h, bytes] => Some(head(line::number(w)?, line::number(h)?, &line::bytes(bytes)?)),
         ["size", w, h] => Some(size(line::number(w)?, line::number(h)?)),
+        ["readd", w, h, out, store, bytes] => {
+            [w, h, out, store].into_iter().map(line::number).collect::<Option<Vec<_>>>()?;
+            line::bytes(bytes)?;
+            Some(plain(NOT_COMPARABLE))
+        }
         ["worst", w, h] => {
             line::number(w)?;
             line::number(h)?;
