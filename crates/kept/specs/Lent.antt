@@ -75,7 +75,7 @@ pub record FrameLeft (rowRule : RowRule) (rule : SampleRule) (bytes : List ℕ) 
 abbrev pub earlyChecks : List ℕ → ℕ → ℕ → List Float → List ℕ → List Check
 earlyChecks bytes widest highest out store = headChecks bytes widest highest ++ frameChecks (headOf (fieldsOf bytes)) out store
 
--- "All refusals but 9 change no lent memory", and 25, which leaves it as 9 does: where one of these checks fails, output and row store are as lent; where none does, they are as the rows leave them
+-- "All refusals but 9 change no lent memory", and 14 and 25, which leave it as 9 does: where one of these checks fails, output and row store are as lent; where none does, they are as the rows leave them
 pub record ReadLeft (rowRule : RowRule) (rule : SampleRule) (bytes : List ℕ) (widest highest : ℕ) (out : List Float) (store : List ℕ) : Type 0 where
   pub early : (n : ℕ) → FirstFails n (earlyChecks bytes widest highest out store) → readBy rowRule rule bytes widest highest out store ≡ (refuse n, out, store)
   pub later : ((n : ℕ) → FirstFails n (earlyChecks bytes widest highest out store) → ⊥)

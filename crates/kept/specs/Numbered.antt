@@ -14,7 +14,7 @@ use Rattle.frames_written.specs.Samples.{firstBright}
 use Rattle.frames_written.specs.Frame.{frameOf, fileOf}
 use Rattle.writer.specs.Write as writer
 
--- the reader, by any rule for a row and for a pixel: 1 to 8 before anything is written, and then the number of the first row at fault, 9 or 25 in the crate reading
+-- the reader, by any rule for a row and for a pixel: 1 to 8 before anything is written, and then the number of the first row at fault, 9 or 25 in the crate reading, 9 or 14 in the document reading
 unfoldable pub readChecks : RowRule → SampleRule → List ℕ → ℕ → ℕ → List Float → List ℕ → List Check
 readChecks rowRule rule bytes widest highest out store =
     let head = headOf (fieldsOf bytes) in

@@ -1,4 +1,4 @@
--- The cut that is not refused: bytes that end inside what the last count of a coded row asks for.
+-- The cut that the crate reading does not refuse: bytes that end inside what the last count of a coded row asks for.
 use Prim.Native.Nat.{ℕ, _+_, _-_, _<_, _≤_}
 use mathlib.Core.Bool.{false}
 use mathlib.Core.List.{List, _++_}
