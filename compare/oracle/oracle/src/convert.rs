@@ -230,11 +230,7 @@ pub fn differences() {
         &after(b"#?RGBE\n\n-Y 1 +X 8\n", &[2, 2, 0, 8, 255, 128, 136, 64, 136, 32, 136, 129]),
         24,
     );
-    print_read(
-        "count of 0",
-        &after(b"#?RGBE\n\n-Y 1 +X 8\n", &[2, 2, 0, 8, 0, 136, 128, 136, 64, 136, 32, 136, 129]),
-        24,
-    );
+    print_read("count of 0", &after(b"#?RGBE\n\n-Y 1 +X 8\n", &[2, 2, 0, 8, 0, 136, 128, 136, 64, 136, 32, 136, 129]), 24);
     let four = [1, 0, 0, 136, 2, 0, 0, 136, 3, 0, 0, 136, 4, 0, 0, 136];
     print_read(
         "+X 2 -Y 2: pixels 1, 2, 3, 4 are rows 1 2 and 3 4 (columns by the document)",
