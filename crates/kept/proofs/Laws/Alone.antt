@@ -21,7 +21,7 @@ use Rattle.header.proofs.Laws.Rest.{header-rest}
 use Rattle.steps.specs.declared.Reading.{Reading}
 use Rattle.steps.specs.declared.Reading.the-variants.{Crate, Document}
 use Rattle.rows_read.specs.Row.{RowRule, rowOf}
-use Rattle.rows_read.specs.Middle.{Alike, Rests, Alone, gapOf}
+use Rattle.rows_read.specs.Middle.{Alike, Rests, Alone}
 use Rattle.rows_read.proofs.Laws.Alike.{Near, near-or, NonePast}
 use Rattle.rows_read.proofs.Laws.Behind.{reading-alone, reading-past, document-first}
 use Rattle.rows_read.proofs.Laws.Bounds.{reading-sound}

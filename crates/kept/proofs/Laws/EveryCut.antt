@@ -8,18 +8,17 @@ use borrow.Author.Tests.{ltb-false, eqb-true, eqb-false}
 use lib.Dec.{eqb}
 use lib.Ieee.{Float}
 use lib.ListN.{length, take}
-use lib.Seq.{length-take-le, take-take, take-length}
+use lib.Seq.{length-take-le, take-take}
 use Rattle.steps.specs.Answer.{Answer, done, refused, refuse}
 use Rattle.steps.proofs.Laws.Answer.{pass}
 use Rattle.steps.proofs.Laws.Order.{by-order}
-use Rattle.steps.proofs.Laws.Taken.{fault-done, never-both}
+use Rattle.steps.proofs.Laws.Taken.{never-both}
 use Rattle.steps.specs.declared.Taken.{Taken}
-use Rattle.steps.specs.declared.Taken.the-variants.{Done, Fault}
+use Rattle.steps.specs.declared.Taken.the-variants.{Done}
 use Rattle.steps.specs.declared.Reading.the-variants.{Document}
 use Rattle.header.specs.declared.Head.{Head}
 use Rattle.header.specs.declared.HeadAnswer.the-variants.{Read}
 use Rattle.header.specs.Head.{headerOf}
-use Rattle.header.proofs.Laws.Head.{header-within}
 use Rattle.rows_read.specs.Row.{documentRow}
 use Rattle.rows_read.specs.Middle.{Alike, Rests}
 use Rattle.rows_read.proofs.Laws.Bounds.{reading-sound}
@@ -29,7 +28,7 @@ use Rattle.reader.specs.Frame.{Stored, storedOf, cleared, Left, rowsOf}
 use Rattle.reader.specs.Read.{frameChecks, framed, documentPixel, readOf}
 use Rattle.reader.specs.Inner.{frameAnswer}
 use Rattle.reader.proofs.Laws.Read.{read-frame}
-use Rattle.kept.specs.Lent.{before, rowAt, Stand, RowsRead, RowsLeft}
+use Rattle.kept.specs.Lent.{before, rowAt, RowsRead, RowsLeft}
 use Rattle.kept.specs.Cut.{CutIn, RefusedIn, EveryCut}
 use Rattle.kept.proofs.Laws.Done.{refused-done, FileRead, file-read}
 use Rattle.kept.proofs.Laws.Lent.{stored-apart, stored-inside, rows-left}

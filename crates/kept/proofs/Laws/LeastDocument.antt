@@ -1,20 +1,18 @@
 -- A file that the document reading reads has the bytes that `documentLeast` says: of a flat part and a channel first, then of a row and the rows.
-use Prim.Native.Nat.{ℕ, zero, suc, _+_, _-_, _*_, min, _<_, _≤_}
+use Prim.Native.Nat.{ℕ, zero, suc, _+_, _-_, _*_, _<_, _≤_}
 use native.Mathlib.Nat.{suc-mul}
 use native.Mathlib.Numerals.{add-one}
 use native.Mathlib.Omega.{arith}
 use mathlib.Core.List.{List}
-use mathlib.Core.Bool.{Bool, true, false}
 use mathlib.Core.Path.{_≡_, refl, sym, ap, subst, _∙_}
 use borrow.Author.Tests.{ltb-false, eqb-false, lt-ltb, le-ltb}
 use lib.Dec.{ltb}
 use lib.ListN.{length, getD}
 use lib.Ieee.{Float}
-use Rattle.steps.specs.Loop.{pick, Turn}
 use Rattle.steps.specs.Answer.{Answer, done}
 use Rattle.steps.proofs.Laws.Taken.{never-both}
 use Rattle.steps.specs.declared.Taken.{Taken}
-use Rattle.steps.specs.declared.Taken.the-variants.{Done, Fault}
+use Rattle.steps.specs.declared.Taken.the-variants.{Done}
 use Rattle.steps.specs.declared.Reading.the-variants.{Document}
 use Rattle.steps.proofs.Laws.Order.{by-order}
 use Rattle.steps.proofs.Laws.Turns.{by-test, Leads, run-keeps}
@@ -22,13 +20,13 @@ use Rattle.header.specs.declared.Head.{Head}
 use Rattle.header.specs.Head.{headerOf}
 use Rattle.flat_read.specs.Flat.{Flat, flat, timesOf, documentOnes, documentFlat, flatTurn, flatOut, flatOf}
 use Rattle.flat_read.proofs.Laws.Flat.{flat-cases}
-use Rattle.channels_read.specs.Channel.{Chan, chan, documentCount, channelTurn, channelOut, channelOf, spanLength, spanTaken, spanOf, span}
+use Rattle.channels_read.specs.Channel.{Chan, documentCount, channelTurn, channelOut, channelOf, spanTaken, spanOf, span}
 use Rattle.channels_read.specs.Channels.{channelsOf}
 use Rattle.channels_read.proofs.Laws.Channel.{taken-run, taken-literals, document-spans, channel-cases}
 use Rattle.channels_read.proofs.Laws.Channels.{apart}
-use Rattle.rows_read.specs.Row.{isFlatWidth, kindOf, restBy, rowBy, documentStart, partsOf, rowOf, documentRow}
-use Rattle.rows_read.proofs.Laws.Row.{kind-cases, not-flat}
-use Rattle.reader.specs.Frame.{storedOf, cleared}
+use Rattle.rows_read.specs.Row.{isFlatWidth, restBy, rowBy, documentStart, partsOf, rowOf, documentRow}
+use Rattle.rows_read.proofs.Laws.Row.{kind-cases}
+use Rattle.reader.specs.Frame.{cleared}
 use Rattle.reader.specs.Read.{documentPixel, readOf}
 use Rattle.kept.specs.Least.{AreBytes, rowLeast, documentLeast}
 use Rattle.kept.specs.Lent.{before, rowAt}

@@ -4,7 +4,7 @@ use mathlib.Core.Bool.{Bool, true, false}
 use mathlib.Core.List.{List, _++_}
 use mathlib.Core.Path.{_≡_, refl, sym, subst, _∙_}
 use native.Mathlib.Omega.{arith}
-use borrow.Author.Tests.{le-ltb, ltb-false}
+use borrow.Author.Tests.{le-ltb}
 use lib.Dec.{ltb}
 use lib.ListN.{length, getD}
 use Rattle.steps.proofs.Laws.Order.{by-order}
@@ -14,7 +14,7 @@ use Rattle.steps.proofs.Laws.Taken.{never-both}
 use Rattle.steps.specs.declared.Reading.{Reading}
 use Rattle.steps.specs.declared.Reading.the-variants.{Crate, Document}
 use Rattle.steps.proofs.Laws.Turns.{by-test}
-use Rattle.channels_read.specs.Channel.{Count, span, fault, short, isRun, spanLength, spanTaken, behind, lacking, crateCount, documentCount, countRule}
+use Rattle.channels_read.specs.Channel.{Count, isRun, spanLength, spanTaken, behind, lacking, crateCount, documentCount, countRule}
 use Rattle.channels_read.proofs.Laws.Channel.{document-past, document-lacks, document-span, document-spans}
 use Rattle.flat_read.specs.Flat.{Flat, timesOf, documentOnes, crateFlat, documentFlat, flatRule}
 use Rattle.rows_read.specs.declared.kind.Kind.{Kind}

@@ -1,6 +1,5 @@
 -- `flat_read::document::repeat` meets its contract: each `return` is a case of `documentOnes`.
 use borrow.Author.Needs.{needs}
-use native.Mathlib.Omega.{arith}
 use Rattle.flat_read.proofs.Laws.Document.{ones-first, ones-past, ones-copies}
 use Rattle.flat_read.proofs.document.repeat.Statement.{statement}
 use Rattle.flat_read.proofs.document.repeat.Tie as tie
