@@ -13,7 +13,7 @@ pub struct Lead {
 
 // A digit times b, and c more.
 fn carry(d: u8, b: usize, c: usize) -> usize
-    requires { ⌜ (b ≤ 5) × (c < 256) ⌝ }
+    requires { ⌜ (b ≤ 5) × (c < 512) ⌝ }
     ensures { λ r. ⌜ r ≡ d * b + c ⌝ }
     ensures { λ r. ⌜ r < 2560 ⌝ }
 {
@@ -22,7 +22,7 @@ fn carry(d: u8, b: usize, c: usize) -> usize
 
 // Digits, the lowest first, times b, and c more.
 fn times(digits: &mut [u8], b: usize, c: usize)
-    requires { ⌜ (b ≤ 5) × (c < 256) ⌝ }
+    requires { ⌜ (b ≤ 5) × (c < 512) ⌝ }
     ensures { λ _. ⌜ now (digits .exit) ≡ carried b c (now (digits .entry)) ⌝ }
 {
     let mut i = 0;
@@ -77,7 +77,7 @@ fn first(digits: &[u8]) -> Lead
 
 // The first nine digits of m times b^k, and how many follow.
 pub fn leading(m: usize, b: usize, k: usize) -> Lead
-    requires { ⌜ (m < 256) × (b ≤ 5) × Short (m * b ^ k) ⌝ }
+    requires { ⌜ (m < 512) × (b ≤ 5) × Short (m * b ^ k) ⌝ }
     ensures { λ r. ⌜ Leads (m * b ^ k) (r .digits) (r .more) ⌝ }
     ensures { λ r. ⌜ r .more ≤ 100 ⌝ }
 {

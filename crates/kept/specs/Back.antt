@@ -10,7 +10,7 @@ use Rattle.steps.specs.Place.{spread}
 use Rattle.steps.specs.Answer.{Answer, done}
 use Rattle.pixel.specs.declared.Pixel.{Pixel}
 use Rattle.pixel.specs.Rgbe.{peak, rgbeAt}
-use Rattle.loss.specs.Kept.{Numbers, Between, InRange, Lies, step, KeptAll, zeros}
+use Rattle.loss.specs.Kept.{Numbers, Between, InRange, Lies, Below, KeptAll, zeros}
 use Rattle.header.specs.declared.Head.{Head}
 use Rattle.header.specs.Head.{head}
 use Rattle.flat_read.specs.Flat.{isRepeat}
@@ -58,12 +58,12 @@ pub record Beyond (n : ℕ) (lent out : List Float) : Type 0 where
   pub long : length out ≡ length lent
   pub rest : drop n out ≡ drop n lent
 
--- the reader's answer, and the output that it made of the lent one, for a file of `size` bytes
-pub record ReadBack (w h size : ℕ) (samples lent : List Float) (answer : Answer Head) (out : List Float) : Type 0 where
+-- the reader's answer, and the output that it made of the lent one, for a file of `size` bytes; `near` is how near a sample comes back (`nearOf` of loss), at so many digits of the pixel's largest
+pub record ReadBack (near : ℕ → ℕ → ℕ → Type 0) (w h size : ℕ) (samples lent : List Float) (answer : Answer Head) (out : List Float) : Type 0 where
   -- "takes exactly the bytes written"
   pub answered : answer ≡ doneWith w h size
-  -- "each sample comes back at most its value and less than one step below it"
-  pub kept : (k n : ℕ) → k < w * h → Lies (pixel samples k) n → KeptAll (step n) (pixel samples k) (pixel out k)
+  -- "each sample comes back": by the crate reading "at most its value and less than one step below it", by the document reading "at most half a step from the sample, on either side"
+  pub kept : (k n : ℕ) → k < w * h → Lies (pixel samples k) n → KeptAll (near n) (pixel samples k) (pixel out k)
   -- "a black pixel comes back as zeros"
   pub black : (k : ℕ) → k < w * h → peak (pixel samples k) ≡ 0 → pixel out k ≡ zeros
   pub beyond : Beyond (3 * (w * h)) lent out
@@ -80,11 +80,11 @@ NoOnes px w n = isCoded w ≡ false → (k : ℕ) → k < n → isRepeat px (4 *
 
 -- ---- The claims, over the definitions and by any rule for a row and for a pixel: the reader on the file that is written, with any bytes after it
 
-abbrev pub ComesBack : RowRule → SampleRule → ℕ → ℕ → List Float → Type 0
-ComesBack rowRule rule w h samples =
+abbrev pub ComesBack : (ℕ → ℕ → ℕ → Type 0) → RowRule → SampleRule → ℕ → ℕ → List Float → Type 0
+ComesBack near rowRule rule w h samples =
     (rest : List ℕ) (widest highest : ℕ) (out : List Float) (store : List ℕ) → Enough w h widest highest out store
     → let left = readBy rowRule rule (fileOf samples w h ++ rest) widest highest out store in
-    ReadBack w h (length (fileOf samples w h)) samples out (left .0) (left .1)
+    ReadBack near w h (length (fileOf samples w h)) samples out (left .0) (left .1)
 
 abbrev pub ComesBack4 : RowRule → SampleRule → ℕ → ℕ → List ℕ → Type 0
 ComesBack4 rowRule rule w h px =
@@ -94,12 +94,12 @@ ComesBack4 rowRule rule w h px =
 
 -- ---- The claims, over the calls: a call of the writer was done and left n bytes in its output, and a reader by the rules is called on them, with any bytes after
 
-abbrev pub CallsComeBack : RowRule → SampleRule → ℕ → ℕ → List Float → Type 0
-CallsComeBack rowRule rule w h samples =
+abbrev pub CallsComeBack : (ℕ → ℕ → ℕ → Type 0) → RowRule → SampleRule → ℕ → ℕ → List Float → Type 0
+CallsComeBack near rowRule rule w h samples =
     (lent left : List ℕ) (n : ℕ) → WritePromise w h samples lent (Done n) left
     → (rest : List ℕ) (widest highest : ℕ) (out out′ : List Float) (store store′ : List ℕ) (answer : ReadAnswer) → Enough w h widest highest out store
     → ReadPromiseBy rowRule rule (take n left ++ rest) widest highest out store answer out′ store′
-    → ReadBack w h n samples out (paperOf answer) out′
+    → ReadBack near w h n samples out (paperOf answer) out′
 
 abbrev pub CallsComeBack4 : RowRule → SampleRule → ℕ → ℕ → List ℕ → Type 0
 CallsComeBack4 rowRule rule w h px =
@@ -128,4 +128,4 @@ oneRed x = x ∷ fin false 0 (pos 0) ∷ fin false 0 (pos 0) ∷ []
 pub record Lost (x : Float) : Type 0 where
   pub numbers : Numbers (pixel (oneRed x) 0)
   pub outside : Between (peak (pixel (oneRed x) 0)) → ⊥
-  pub lost : ComesBack crateRow cratePixel 1 1 (oneRed x) → ⊥
+  pub lost : ComesBack Below crateRow cratePixel 1 1 (oneRed x) → ⊥

@@ -16,7 +16,7 @@ abbrev pub rgbe : ℕ → ℕ → ℕ → ℕ → Rgbe
 rgbe r g b e = record { r = r; g = g; b = b; e = e }
 
 -- "The value of a mantissa m at exponent byte E is (m + 1/2)/256 x 2^(E-128) in Ward's reader", 0 standing for black: the middle of the step,
--- in whole numbers of 2^-149. The lower edge, m/256 x 2^(E-128), is `docUnits` of pixel.
+-- in whole numbers of 2^-149
 unfoldable pub middleUnits : ℕ → ℕ → ℕ
 middleUnits m e = pick (eqb e 0) 0 ((2 * m + 1) * 2 ^ (e + 12))
 

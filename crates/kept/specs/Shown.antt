@@ -10,7 +10,7 @@ use Rattle.pixel.specs.declared.Packed.the-variants.{Bytes, TooBright}
 use Rattle.header.specs.Head.{head}
 use Rattle.words.specs.Lines.{rgbeLine, lineFeed, space}
 use Rattle.words.specs.Fields.{minusY, plusX}
-use Rattle.kept.specs.Skies.{Case, reads, writes, rgbe, pixel, whole, part, none}
+use Rattle.kept.specs.Skies.{Case, shows, reads, writes, rgbe, pixel, whole, part, none}
 
 -- ---- Files
 
@@ -81,6 +81,9 @@ shown =
     (done (head 2 2 34))
     (whole 1 0 ∷ none ∷ none ∷ whole 1 1 ∷ none ∷ none ∷ whole 3 0 ∷ none ∷ none ∷ whole 1 2 ∷ none ∷ none ∷ [])
     (3 ∷ 0 ∷ 0 ∷ 136 ∷ 4 ∷ 0 ∷ 0 ∷ 136 ∷ [])
+    -- 7: what the crate writes for dark light, 0,0,0,128, is black, and by the document reading half a step of grey, 2^-9
+    ∷ shows Crate (rgbe 0 0 0 128) (pixel none none none)
+    ∷ shows Document (rgbe 0 0 0 128) (pixel (part 1 9) (part 1 9) (part 1 9))
     -- 8: FORMAT and EXPOSURE are passed over
     ∷ reads Crate (file (format ++ exposure) (rows (digit 1) (digit 1)) ++ (128 ∷ 64 ∷ 32 ∷ 129 ∷ []))
     (replicate 3 (whole 1 1)) (replicate 4 7)

@@ -74,12 +74,12 @@ small height width = rgbeLine ++ (lineFeed ∷ (minusY ++ (space ∷ (48 + heigh
 abbrev oldRun : List ℕ
 oldRun = 10 ∷ 10 ∷ 10 ∷ 129 ∷ 20 ∷ 20 ∷ 20 ∷ 129 ∷ 1 ∷ 1 ∷ 1 ∷ 2 ∷ []
 
--- 10 and 20 times 2^-7
+-- 10 and 20 by the document reading: 21 and 41 times 2^-8
 abbrev tenth : Float
-tenth = part 5 6
+tenth = part 21 8
 
 abbrev fifth : Float
-fifth = part 5 5
+fifth = part 41 8
 
 -- ---- The table
 
@@ -92,12 +92,14 @@ skies =
     ∷ reads Crate (small 0 3) (whole 1 0 ∷ []) (replicate 13 7) (done (head 3 0 18)) (whole 1 0 ∷ []) (replicate 12 0 ++ 7 ∷ [])
     -- 4: four bytes to samples
     ∷ shows Crate (rgbe 128 64 32 129) (pixel (whole 1 0) (part 1 1) (part 1 2))
+    ∷ shows Document (rgbe 128 64 32 129) (pixel (part 257 8) (part 129 8) (part 65 8))
     ∷ shows Crate (rgbe 1 0 0 97) (pixel (part 1 39) none none)
     ∷ shows Crate (rgbe 128 0 0 96) (pixel (part 1 1) none none)
     ∷ shows Crate (rgbe 128 0 0 160) (pixel (part 1 1) none none)
-    ∷ shows Document (rgbe 128 0 0 96) (pixel (part 1 33) none none)
-    ∷ shows Document (rgbe 128 0 0 160) (pixel (whole 1 31) none none)
+    ∷ shows Document (rgbe 128 0 0 96) (pixel (part 257 41) (part 1 41) (part 1 41))
+    ∷ shows Document (rgbe 128 0 0 160) (pixel (whole 257 23) (whole 1 23) (whole 1 23))
     ∷ shows Crate (rgbe 255 255 255 0) (pixel none none none)
+    ∷ shows Document (rgbe 255 255 255 0) (pixel none none none)
     -- 5: width 4, one row with an old run: refused in row 0
     ∷ reads Crate (small 1 4 ++ oldRun)
     (replicate 12 (whole 1 0)) (replicate 16 7)
@@ -115,6 +117,7 @@ skies =
     -- 7: samples to four bytes: 0.003 three times; -1, no number, 2^-32
     ∷ writes (pixel dusk dusk dusk) (Bytes (rgbe 196 196 196 120))
     ∷ writes (pixel (fin true 1 (pos 0)) nan (part 1 32)) (Bytes (rgbe 0 0 128 97))
-    -- what 0.003 comes back as: 49/16384, which is 0.00299072265625
+    -- what 0.003 comes back as: 49/16384, which is 0.00299072265625; by the document reading 393/131072, which is 0.00299835205078125
     ∷ shows Crate (rgbe 196 196 196 120) (pixel (part 49 14) (part 49 14) (part 49 14))
+    ∷ shows Document (rgbe 196 196 196 120) (pixel (part 393 17) (part 393 17) (part 393 17))
     ∷ []

@@ -5,27 +5,27 @@ use lib.Dec.{ltb, eqb}
 use Rattle.steps.specs.Loop.{pick}
 use Rattle.steps.specs.declared.Reading.{Reading}
 use Rattle.pixel.specs.declared.Rgbe.{Rgbe}
-use Rattle.pixel.specs.Rgbe.{unitsOf}
+use Rattle.pixel.specs.Rgbe.{countOf, unitsOf}
 
 -- the largest of the three samples
 unfoldable pub lightOf : Reading → Rgbe → ℕ
 lightOf reading q = max (max (unitsOf reading (q .r) (q .e)) (unitsOf reading (q .g) (q .e))) (unitsOf reading (q .b) (q .e))
 
--- the largest mantissa; 0 at the exponent byte 0, where every sample is 0
-unfoldable pub topOf : Rgbe → ℕ
-topOf q = pick (eqb (q .e) 0) 0 (max (max (q .r) (q .g)) (q .b))
+-- how many steps, or half steps by the document reading, the light is: by the largest mantissa, and 0 at the exponent byte 0
+unfoldable pub topOf : Reading → Rgbe → ℕ
+topOf reading q = pick (eqb (q .e) 0) 0 (countOf reading (max (max (q .r) (q .g)) (q .b)))
 
--- all three samples are 0, by every reading (`black-light`)
-unfoldable pub isBlack : Rgbe → Bool
-isBlack q = eqb (topOf q) 0
+-- all three samples are 0
+unfoldable pub isBlack : Reading → Rgbe → Bool
+isBlack reading q = eqb (lightOf reading q) 0
 
--- light whose exponent byte is outside 97 to 159, where the crate reading shows it at another brightness than the document
-unfoldable pub isMasked : Rgbe → Bool
-isMasked q = not (isBlack q) && (ltb (q .e) 97 || ltb 159 (q .e))
+-- light whose exponent byte is outside 97 to 159, where the crate reading shows it at another brightness than half a step below the document's, or not at all
+unfoldable pub isMasked : Reading → Rgbe → Bool
+isMasked reading q = not (isBlack reading q) && (ltb (q .e) 97 || ltb 159 (q .e))
 
 -- the darker of two pixels, a black one counting for nothing; the first where they are equal
 unfoldable pub darker : Reading → Rgbe → Rgbe → Rgbe
-darker reading p q = pick (isBlack q) p (pick (isBlack p) q (pick (ltb (lightOf reading q) (lightOf reading p)) q p))
+darker reading p q = pick (isBlack reading q) p (pick (isBlack reading p) q (pick (ltb (lightOf reading q) (lightOf reading p)) q p))
 
 -- the brighter of two pixels; the first where they are equal
 unfoldable pub brighter : Reading → Rgbe → Rgbe → Rgbe

@@ -14,32 +14,32 @@ fn larger(a: u8, b: u8) -> u8
     if a < b { b } else { a }
 }
 
-// The largest mantissa; 0 at the exponent byte 0, where every sample is 0.
-pub fn mantissa(q: Rgbe) -> usize
-    ensures { λ r. ⌜ r ≡ topOf q ⌝ }
-    ensures { λ r. ⌜ r < 256 ⌝ }
+// How many steps, or half steps by the document reading, the light is; 0 at the exponent byte 0.
+pub fn count(reading: Reading, q: Rgbe) -> usize
+    ensures { λ r. ⌜ r ≡ topOf reading q ⌝ }
+    ensures { λ r. ⌜ r < 512 ⌝ }
 {
     if q.e == 0 {
         return 0;
     }
-    steps::wide(larger(larger(q.r, q.g), q.b))
+    pixel::count(reading, larger(larger(q.r, q.g), q.b)) as usize
 }
 
-// A mantissa of 1 is worth 2^shift times 2^-149 at the exponent byte e.
+// A step, or half a step by the document reading, is 2^shift times 2^-149 at the exponent byte e.
 pub fn shift(reading: Reading, e: u8) -> usize
     ensures { λ r. ⌜ r ≡ shiftOf reading e ⌝ }
-    ensures { λ r. ⌜ (13 ≤ r) × (r ≤ 268) ⌝ }
+    ensures { λ r. ⌜ (12 ≤ r) × (r ≤ 267) ⌝ }
 {
     pixel::shift(reading, e) as usize
 }
 
-// Whether m times 2^s is below n times 2^t. Powers from 2^8 on decide alike.
+// Whether m times 2^s is below n times 2^t. Powers from 2^9 on decide alike.
 fn is_below(m: usize, s: usize, n: usize, t: usize) -> bool
-    requires { ⌜ (m < 256) × (n < 256) ⌝ }
+    requires { ⌜ (m < 512) × (n < 512) ⌝ }
     ensures { λ r. ⌜ r ≡ ltb (m * 2 ^ s) (n * 2 ^ t) ⌝ }
 {
-    let a = steps::least(steps::less(s, t), 8);
-    let b = steps::least(steps::less(t, s), 8);
+    let a = steps::least(steps::less(s, t), 9);
+    let b = steps::least(steps::less(t, s), 9);
     (m << a) < (n << b)
 }
 
@@ -48,25 +48,25 @@ fn is_darker(reading: Reading, p: Rgbe, q: Rgbe) -> bool
     ensures { λ r. ⌜ r ≡ ltb (lightOf reading p) (lightOf reading q) ⌝ }
 {
     is_below(
-        mantissa(p),
+        count(reading, p),
         shift(reading, p.e),
-        mantissa(q),
+        count(reading, q),
         shift(reading, q.e),
     )
 }
 
 // Whether all three samples are 0.
-pub fn is_black(q: Rgbe) -> bool
-    ensures { λ r. ⌜ r ≡ isBlack q ⌝ }
+pub fn is_black(reading: Reading, q: Rgbe) -> bool
+    ensures { λ r. ⌜ r ≡ isBlack reading q ⌝ }
 {
-    mantissa(q) == 0
+    count(reading, q) == 0
 }
 
-// Whether a pixel shows light, and the crate reading shows it at another brightness than the document.
-pub fn is_masked(q: Rgbe) -> bool
-    ensures { λ r. ⌜ r ≡ isMasked q ⌝ }
+// Whether a pixel shows light, and its exponent byte is outside 97 to 159.
+pub fn is_masked(reading: Reading, q: Rgbe) -> bool
+    ensures { λ r. ⌜ r ≡ isMasked reading q ⌝ }
 {
-    if is_black(q) {
+    if is_black(reading, q) {
         return false;
     }
     if q.e < 97 {
@@ -79,10 +79,10 @@ pub fn is_masked(q: Rgbe) -> bool
 pub fn darker(reading: Reading, p: Rgbe, q: Rgbe) -> Rgbe
     ensures { λ r. ⌜ r ≡ darker reading p q ⌝ }
 {
-    if is_black(q) {
+    if is_black(reading, q) {
         return p;
     }
-    if is_black(p) {
+    if is_black(reading, p) {
         return q;
     }
     if is_darker(reading, q, p) { q } else { p }

@@ -39,21 +39,36 @@ pub record Lies (p : Pixel) (n : ℕ) : Type 0 where
   pub from : 2 ^ (n - 1) ≤ peak p
   pub below : peak p < 2 ^ n
 
--- a step is 2^(e-8)
+-- a step is 2^(e-8), and half a step 2^(e-9)
 abbrev pub step : ℕ → ℕ
 step n = 2 ^ (n - 8)
 
--- the sample x comes back as y: a number again, at most its value and less than one step below it
-pub record Kept (step : ℕ) (x y : Float) : Type 0 where
+abbrev pub halfStep : ℕ → ℕ
+halfStep n = 2 ^ (n - 9)
+
+-- x comes back as y by the crate reading: at most its value and less than one step below it
+abbrev pub Below : ℕ → ℕ → ℕ → Type 0
+Below n x y = (y ≤ x) × (x < y + step n)
+
+-- and by the document reading: at most half a step from it, on either side
+abbrev pub Beside : ℕ → ℕ → ℕ → Type 0
+Beside n x y = (y ≤ x + halfStep n) × (x ≤ y + halfStep n)
+
+-- how near a reading gives a sample back
+abbrev pub nearOf : Reading → ℕ → ℕ → ℕ → Type 0
+nearOf Crate = Below
+nearOf Document = Beside
+
+-- the sample x comes back as y: a number again, and so near
+pub record Kept (near : ℕ → ℕ → Type 0) (x y : Float) : Type 0 where
   pub number : T (plain y)
-  pub at-most : mag y ≤ mag x
-  pub near : mag x < mag y + step
+  pub value : near (mag x) (mag y)
 
 -- each sample of p comes back so in q
-pub record KeptAll (step : ℕ) (p q : Pixel) : Type 0 where
-  pub r : Kept step (p .r) (q .r)
-  pub g : Kept step (p .g) (q .g)
-  pub b : Kept step (p .b) (q .b)
+pub record KeptAll (near : ℕ → ℕ → Type 0) (p q : Pixel) : Type 0 where
+  pub r : Kept near (p .r) (q .r)
+  pub g : Kept near (p .g) (q .g)
+  pub b : Kept near (p .b) (q .b)
 
 -- what a black pixel comes back as
 abbrev pub zeros : Pixel

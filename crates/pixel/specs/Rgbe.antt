@@ -20,26 +20,31 @@ use Rattle.pixel.specs.Units.{ofUnits, mag}
 unfoldable pub crateShift : ℕ → ℕ
 crateShift e = pick (ltb 128 e) (141 + (e - 128) % 32) (141 - (128 - e) % 32)
 
--- ---- RULES 4.14: the document's value is m·2^(E-136), and 0 where E is 0
+-- ---- RULES 4.14: the document's value is (2m + 1)·2^(E-137), the middle of the step, and 0 where E is 0
 
--- 2^(E-136) is 2^docShift times 2^-149
+-- 2^(E-137), half a step, is 2^docShift times 2^-149
 abbrev pub docShift : ℕ → ℕ
-docShift e = e + 13
+docShift e = e + 12
 
--- ---- Both, by the reading
+-- ---- Both, by the reading: a sample is a whole number of steps, or of half steps
 
--- a mantissa of 1 is worth 2^shift times 2^-149, where E is not 0
+-- how many, for a mantissa m: m, or 2m + 1
+abbrev pub countOf : Reading → ℕ → ℕ
+countOf Crate m = m
+countOf Document m = 2 * m + 1
+
+-- one is worth 2^shift times 2^-149, where E is not 0
 abbrev pub shiftOf : Reading → ℕ → ℕ
 shiftOf Crate = crateShift
 shiftOf Document = docShift
 
--- what a mantissa of 1 is worth at the exponent byte e: 0 if e is 0
+-- what one is worth at the exponent byte e: 0 if e is 0
 unfoldable pub scaleOf : Reading → ℕ → ℕ
 scaleOf reading e = pick (eqb e 0) 0 (2 ^ shiftOf reading e)
 
 -- the sample
 unfoldable pub unitsOf : Reading → ℕ → ℕ → ℕ
-unitsOf reading m e = m * scaleOf reading e
+unitsOf reading m e = countOf reading m * scaleOf reading e
 
 -- the crate's sample
 abbrev pub crateUnits : ℕ → ℕ → ℕ

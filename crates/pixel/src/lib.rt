@@ -9,6 +9,7 @@ ghost use lib.ListN.{length};
 ghost use Rattle.pixel.specs.Units.{ofUnits, mag};
 ghost use Rattle.pixel.specs.Rgbe.{
   crateShift,
+  countOf,
   shiftOf,
   scaleOf,
   unitsOf,
@@ -80,7 +81,7 @@ fn any_power(j: u32) -> f32
     }
 }
 
-// A mantissa of 1 is worth 2^shift times 2^-149 at the exponent byte e, by the crate's rule, if e is not 0.
+// A step is 2^shift times 2^-149 at the exponent byte e, by the crate's rule, if e is not 0.
 fn crate_shift(e: u8) -> u32
     ensures { λ r. ⌜ r ≡ crateShift e ⌝ }
 {
@@ -91,17 +92,27 @@ fn crate_shift(e: u8) -> u32
     }
 }
 
-// The same by a reading.
+// A step of the crate reading, or half a step of the document reading, is 2^shift times 2^-149 at the exponent byte e, if e is not 0.
 pub fn shift(reading: Reading, e: u8) -> u32
     ensures { λ r. ⌜ r ≡ shiftOf reading e ⌝ }
 {
     match reading {
         Reading::Crate => crate_shift(e),
-        Reading::Document => e as u32 + 13,
+        Reading::Document => e as u32 + 12,
     }
 }
 
-// What a mantissa of 1 is worth at the exponent byte e, by a reading. The crate's scales have an exponent field, and are not tested for one.
+// How many of them a sample of the mantissa m is.
+pub fn count(reading: Reading, m: u8) -> u16
+    ensures { λ r. ⌜ r ≡ countOf reading m ⌝ }
+{
+    match reading {
+        Reading::Crate => m as u16,
+        Reading::Document => 2 * m as u16 + 1,
+    }
+}
+
+// What one of them is worth at the exponent byte e. The crate's scales have an exponent field, and are not tested for one.
 fn scale(reading: Reading, e: u8) -> f32
     ensures { λ r. ⌜ r ≡ ofUnits (scaleOf reading e) ⌝ }
 {
@@ -110,7 +121,7 @@ fn scale(reading: Reading, e: u8) -> f32
     }
     match reading {
         Reading::Crate => power(crate_shift(e)),
-        Reading::Document => any_power(e as u32 + 13),
+        Reading::Document => any_power(e as u32 + 12),
     }
 }
 
@@ -147,9 +158,9 @@ pub fn from_bytes(reading: Reading, q: Rgbe) -> Pixel
 {
     let worth = scale(reading, q.e);
     Pixel {
-        r: (q.r as f32) * worth,
-        g: (q.g as f32) * worth,
-        b: (q.b as f32) * worth,
+        r: (count(reading, q.r) as f32) * worth,
+        g: (count(reading, q.g) as f32) * worth,
+        b: (count(reading, q.b) as f32) * worth,
     }
 }
 

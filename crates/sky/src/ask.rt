@@ -72,21 +72,24 @@ fn help() -> bool {
 // How files are read, and what light is.
 fn help_reading() {
     say::text(
-        b"Files are read by the Radiance document; with --crate as zune-hdr reads them, which shows light at\n",
+        b"Files are read by the Radiance document; with --crate as zune-hdr reads them: light half a step lower\n",
     );
     say::text(
-        b"another brightness outside the exponents 97-159 and broken rows as some picture, and has no old runs.\n",
+        b"at exponents 97-159 and at another brightness outside, broken rows as some picture, and no old runs.\n",
     );
     say::text(
         b"A pixel's light is its largest sample, in decimal: exactly, or if it is very small or large its first\n",
     );
     say::text(
-        b"nine digits and a power of ten. 'outside 97-159' counts the pixels that show light and that zune-hdr\n",
+        b"nine digits and a power of ten. 'outside 97-159' counts the pixels with light whose exponent byte lies\n",
     );
     say::text(
-        b"shows at another brightness. The chart of 'stops' goes by the Radiance document, darkest first; '|'\n",
+        b"outside, where zune-hdr shows another brightness. The chart of 'stops' goes by the Radiance document,\n",
     );
-    say::text(b"marks light from 2^-32 to below 2^31, which zune-hdr shows as it is.\n");
+    say::text(
+        b"darkest first; '|' marks light from 2^-32 to below 2^31, the range in which zune-hdr shows what is\n",
+    );
+    say::text(b"written to within a step.\n");
 }
 
 // What a copy is, and how an answer ends.

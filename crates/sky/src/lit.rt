@@ -9,9 +9,9 @@ ghost use lib.ListN.{length};
 
 // 2^j.
 fn power(j: usize) -> usize
-    requires { ⌜ j ≤ 39 ⌝ }
+    requires { ⌜ j ≤ 40 ⌝ }
     ensures { λ r. ⌜ r ≡ 2 ^ j ⌝ }
-    ensures { λ r. ⌜ (0 < r) × (r ≤ 1000000000000) ⌝ }
+    ensures { λ r. ⌜ (0 < r) × (r ≤ 2000000000000) ⌝ }
 {
     1 << j
 }
@@ -25,7 +25,7 @@ fn say_digits(digits: &[u8], n: usize)
 
 // The number n / 2^j, which has j decimals.
 fn say_ratio(n: usize, j: usize)
-    requires { ⌜ j ≤ 39 ⌝ }
+    requires { ⌜ j ≤ 40 ⌝ }
 {
     let unit = power(j);
     say::number(n / unit);
@@ -38,9 +38,9 @@ fn say_ratio(n: usize, j: usize)
     say_digits(&digits, j);
 }
 
-// Light in decimal, exactly: m times 2^s times 2^-149, where that fits 64 bits and has at most 39 decimals.
+// Light in decimal, exactly: m times 2^s times 2^-149, where that fits 64 bits and has at most 40 decimals.
 fn say_exact(m: usize, s: usize)
-    requires { ⌜ (m < 256) × (110 ≤ s) × (s ≤ 204) ⌝ }
+    requires { ⌜ (m < 512) × (109 ≤ s) × (s ≤ 204) ⌝ }
 {
     if 149 <= s {
         say::number(m << (s - 149));
@@ -65,7 +65,7 @@ fn say_power(more: usize, less: usize)
 
 // The nine digits, of which the first stands before the point, and a power of ten: digits times 10^more over 10^j.
 fn say_lead(digits: usize, more: usize, j: usize)
-    requires { ⌜ (more ≤ 100) × (j ≤ 136) ⌝ }
+    requires { ⌜ (more ≤ 100) × (j ≤ 137) ⌝ }
 {
     let mut decimals = [0u8; 8];
     decimal::put_decimals(digits % 100000000, 100000000, 8, &mut decimals);
@@ -77,9 +77,9 @@ fn say_lead(digits: usize, more: usize, j: usize)
 
 // Light in decimal, m times 2^s times 2^-149: exactly, or where that takes more digits than are read, its first nine and a power of ten.
 fn say_decimal(m: usize, s: usize)
-    requires { ⌜ (m < 256) × (13 ≤ s) × (s ≤ 268) ⌝ }
+    requires { ⌜ (m < 512) × (12 ≤ s) × (s ≤ 267) ⌝ }
 {
-    if s < 110 {
+    if s < 109 {
         let lead = leading(m, 5, 149 - s);
         say_lead(lead.digits, lead.more, 149 - s);
         return;
@@ -94,21 +94,21 @@ fn say_decimal(m: usize, s: usize)
 
 // A pixel's light in decimal; a dash where it is black.
 pub(crate) fn say_brief(reading: Reading, q: Rgbe) {
-    if light::is_black(q) {
+    if light::is_black(reading, q) {
         say::text(b"-");
         return;
     }
-    say_decimal(light::mantissa(q), light::shift(reading, q.e));
+    say_decimal(light::count(reading, q), light::shift(reading, q.e));
 }
 
-// A pixel's light, in decimal and as a mantissa times a power of two.
+// A pixel's light, in decimal and as a whole number times a power of two.
 pub(crate) fn say_light(reading: Reading, label: &[u8], q: Rgbe) {
     say::text(label);
-    if light::is_black(q) {
+    if light::is_black(reading, q) {
         say::text(b"none, every pixel is black\n");
         return;
     }
-    let m = light::mantissa(q);
+    let m = light::count(reading, q);
     let s = light::shift(reading, q.e);
     say_decimal(m, s);
     say::text(b" = ");

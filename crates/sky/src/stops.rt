@@ -105,7 +105,7 @@ fn say_spaces(n: usize) {
     }
 }
 
-// The power of two in which a stop lies; 105 to 167 are marked: there the crate reading shows light as it is.
+// The power of two in which a stop lies; 105 to 167 are marked: there the crate reading shows what is written to within a step.
 fn say_power(k: usize)
     requires { ⌜ k < 264 ⌝ }
 {

@@ -1,9 +1,10 @@
--- How many pixels have their light in each power of two, as the Radiance document has it: (2m + 1) 2^(E - 137) is the light of the mantissa m.
+-- How many pixels have the document's light in each power of two.
 use Prim.Native.Nat.{ℕ, zero, suc, _+_, _%_, _^_, max}
 use mathlib.Core.List.{List}
 use lib.Dec.{ltb}
 use lib.ListN.{getD, set}
 use Rattle.steps.specs.Loop.{pick}
+use Rattle.steps.specs.declared.Reading.the-variants.{Document}
 use Rattle.pixel.specs.declared.Rgbe.{Rgbe}
 use Rattle.pixel.specs.Rgbe.{rgbeAt}
 use Rattle.light.specs.Light.{isBlack}
@@ -18,7 +19,7 @@ digits m = reached m 1 + reached m 2 + reached m 4 + reached m 8 + (reached m 16
 
 -- the stop of a pixel, by its largest mantissa: from 2^(stop - 137) to below twice that lies its light; 0 where it is black
 unfoldable pub stopOf : Rgbe → ℕ
-stopOf q = pick (isBlack q) 0 (q .e + digits (max (max (q .r) (q .g)) (q .b)))
+stopOf q = pick (isBlack Document q) 0 (q .e + digits (max (max (q .r) (q .g)) (q .b)))
 
 -- one more at a stop; the counts are below 2^64
 abbrev pub oneMore : List ℕ → ℕ → List ℕ

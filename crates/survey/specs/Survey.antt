@@ -21,8 +21,8 @@ times b n = pick b n 0
 -- n pixels more that are the same
 unfoldable pub seenTimes : Reading → ℕ → Rgbe → Totals → Totals
 seenTimes reading n q t = record {
-  black = t .black + times (isBlack q) n;
-  masked = t .masked + times (isMasked q) n;
+  black = t .black + times (isBlack reading q) n;
+  masked = t .masked + times (isMasked reading q) n;
   darkest = darker reading (t .darkest) q;
   brightest = brighter reading (t .brightest) q;
 }

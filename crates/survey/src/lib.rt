@@ -1,4 +1,4 @@
-// What is asked of a row's four-byte pixels: how many are black, how many show light that the crate reading shows at another brightness than the document, and which are the darkest and the brightest by a reading.
+// What is asked of a row's four-byte pixels by a reading: how many are black, how many show light at an exponent byte outside 97 to 159, and which are the darkest and the brightest.
 pub mod stops;
 
 use pixel::Rgbe;
@@ -89,8 +89,8 @@ fn with_pixels(reading: Reading, q: Rgbe, n: usize, t: Totals) -> Totals
     let darkest = t.darkest;
     let brightest = t.brightest;
     Totals {
-        black: t.black + times(light::is_black(q), n),
-        masked: t.masked + times(light::is_masked(q), n),
+        black: t.black + times(light::is_black(reading, q), n),
+        masked: t.masked + times(light::is_masked(reading, q), n),
         darkest: light::darker(reading, darkest, q),
         brightest: light::brighter(reading, brightest, q),
     }

@@ -1,5 +1,6 @@
-// How many pixels have their light in each power of two, as the Radiance document has it.
+// How many pixels have the document's light in each power of two.
 use pixel::Rgbe;
+use steps::Reading;
 ghost use mathlib.Core.Path.{_≡_};
 ghost use Prim.Native.Nat.{_*_, _≤_, _<_, max};
 ghost use lib.ListN.{length};
@@ -35,7 +36,7 @@ fn stop_of(q: Rgbe) -> usize
     ensures { λ r. ⌜ r ≡ stopOf q ⌝ }
     ensures { λ r. ⌜ r < 264 ⌝ }
 {
-    if light::is_black(q) {
+    if light::is_black(Reading::Document, q) {
         return 0;
     }
     steps::wide(q.e) + digits(larger(larger(q.r, q.g), q.b))

@@ -37,7 +37,7 @@ unfolding carried digitsOf
 carried-none c [] = refl
 carried-none c (d ∷ ds) = rw (mul-zero, zero-add) (rw (carried-none (c / 10) ds))
 
-pub carry-most : (d b c : ℕ) → d < 256 → b ≤ 5 → c < 256 → d * b + c < 2560
+pub carry-most : (d b c : ℕ) → d < 256 → b ≤ 5 → c < 512 → d * b + c < 2560
 carry-most d b c hd hb hc =
     let e : d ≤ 255 = omega arith in
     omega (arith, mul-le-mul-right b e, mul-le-mul-left 255 hb)
@@ -131,12 +131,12 @@ power-leads m b k lead more lent once all len one is leads short =
 
 -- ---- What has at most a hundred digits
 
-short : (m b j most : ℕ) → 0 < b → m < 256 → j ≤ most → 256 * b ^ most < 10 ^ 100 → Short (m * b ^ j)
+short : (m b j most : ℕ) → 0 < b → m < 512 → j ≤ most → 512 * b ^ most < 10 ^ 100 → Short (m * b ^ j)
 unfolding Short
-short m b j most some h k low = lt-of-le-of-lt (le-trans (mul-le-mul-right (b ^ j) (le-of-lt h)) (mul-le-mul-left 256 (pow-le-pow-right some k))) low
+short m b j most some h k low = lt-of-le-of-lt (le-trans (mul-le-mul-right (b ^ j) (le-of-lt h)) (mul-le-mul-left 512 (pow-le-pow-right some k))) low
 
-pub short-fifths : (m j : ℕ) → m < 256 → j ≤ 136 → Short (m * 5 ^ j)
-short-fifths m j h k = short m 5 j 136 (lit< tt) h k (lit< tt)
+pub short-fifths : (m j : ℕ) → m < 512 → j ≤ 137 → Short (m * 5 ^ j)
+short-fifths m j h k = short m 5 j 137 (lit< tt) h k (lit< tt)
 
-pub short-doubles : (m j : ℕ) → m < 256 → j ≤ 119 → Short (m * 2 ^ j)
-short-doubles m j h k = short m 2 j 119 (lit< tt) h k (lit< tt)
+pub short-doubles : (m j : ℕ) → m < 512 → j ≤ 118 → Short (m * 2 ^ j)
+short-doubles m j h k = short m 2 j 118 (lit< tt) h k (lit< tt)

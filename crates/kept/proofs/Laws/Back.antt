@@ -17,7 +17,7 @@ use Rattle.pixel.specs.declared.Rgbe.{Rgbe}
 use Rattle.steps.specs.declared.Reading.{Reading}
 use Rattle.pixel.specs.Rgbe.{unitsOf, pixelOf, peak, dark, bytesOf, rgbeAt}
 use Rattle.loss.specs.Written.{Ones}
-use Rattle.loss.specs.Kept.{rangeOf, InRange, Lies, step, KeptAll, zeros}
+use Rattle.loss.specs.Kept.{rangeOf, InRange, Lies, nearOf, KeptAll, zeros}
 use Rattle.loss.proofs.Laws.Kept.{kept-at-a-pixel, black-back}
 use Rattle.loss.proofs.Laws.Written.{written-no-ones}
 use Rattle.flat_read.specs.Flat.{isRepeat}
@@ -88,9 +88,9 @@ packed-no-ones samples n k h = ap isOldRun (packed-bytes samples n k h) ∙ not-
 
 -- ---- What is asked of a rule for a pixel
 
--- each pixel in range comes back as the demand says, and a black one as zeros
-pub record PixelsBack (range : ℕ → Type 0) (rule : SampleRule) : Type 0 where
-  pub kept : (p : Pixel) (n : ℕ) → InRange range p → Lies p n → KeptAll (step n) p (rule (bytesOf p))
+-- each pixel in range comes back as near as the demand says, and a black one as zeros
+pub record PixelsBack (range : ℕ → Type 0) (near : ℕ → ℕ → ℕ → Type 0) (rule : SampleRule) : Type 0 where
+  pub kept : (p : Pixel) (n : ℕ) → InRange range p → Lies p n → KeptAll (near n) p (rule (bytesOf p))
   pub black : (p : Pixel) → peak p ≡ 0 → rule (bytesOf p) ≡ zeros
 
 -- ---- Demand 3, by any rules of which that holds
@@ -103,20 +103,21 @@ module _ (rowRule : RowRule) (rule : SampleRule) (rows : RowsBack rowRule) where
       read-back4-by rowRule rule rows w h (packed samples 0 (w * h)) sizes (λ flat. packed-no-ones samples (w * h)) rest widest highest out store enough .pixels k l
       ∙ ap rule (packed-bytes samples (w * h) k l)
 
-  pub read-back-by : (range : ℕ → Type 0) → PixelsBack range rule → (w h : ℕ) (samples : List Float) → Sizes w h → AllInRange range samples (w * h) → ComesBack rowRule rule w h samples
-  read-back-by range pixels w h samples sizes all rest widest highest out store enough =
+  pub read-back-by : (range : ℕ → Type 0) (near : ℕ → ℕ → ℕ → Type 0) → PixelsBack range near rule → (w h : ℕ) (samples : List Float) → Sizes w h → AllInRange range samples (w * h)
+      → ComesBack near rowRule rule w h samples
+  read-back-by range near pixels w h samples sizes all rest widest highest out store enough =
       let back = read-back4-by rowRule rule rows w h (packed samples 0 (w * h)) sizes (λ flat. packed-no-ones samples (w * h)) rest widest highest out store enough in
       let is = pixels-back-by w h samples sizes rest widest highest out store enough in
       record {
         answered = back .answered;
-        kept = λ k n l lies. subst (KeptAll (step n) (pixel samples k)) (sym (is k l)) (pixels .kept (pixel samples k) n (all k l) lies);
+        kept = λ k n l lies. subst (KeptAll (near n) (pixel samples k)) (sym (is k l)) (pixels .kept (pixel samples k) n (all k l) lies);
         black = λ k l none. is k l ∙ pixels .black (pixel samples k) none;
         beyond = back .beyond;
       }
 
 -- ---- Either reading
 
-pub reading-pixels : (reading : Reading) → PixelsBack (rangeOf reading) (pixelBy reading)
+pub reading-pixels : (reading : Reading) → PixelsBack (rangeOf reading) (nearOf reading) (pixelBy reading)
 unfolding pixelBy
 reading-pixels reading = record {
   kept = λ p n range lies. kept-at-a-pixel reading p n range lies;
@@ -131,5 +132,5 @@ pub pixels-back : (reading : Reading) (w h : ℕ) (samples : List Float) → Siz
 unfolding pixelBy
 pixels-back reading = pixels-back-by (rowOf reading) (pixelBy reading) (reading-row-back reading)
 
-pub read-back : (reading : Reading) (w h : ℕ) (samples : List Float) → Sizes w h → AllInRange (rangeOf reading) samples (w * h) → ComesBack (rowOf reading) (pixelBy reading) w h samples
-read-back reading = read-back-by (rowOf reading) (pixelBy reading) (reading-row-back reading) (rangeOf reading) (reading-pixels reading)
+pub read-back : (reading : Reading) (w h : ℕ) (samples : List Float) → Sizes w h → AllInRange (rangeOf reading) samples (w * h) → ComesBack (nearOf reading) (rowOf reading) (pixelBy reading) w h samples
+read-back reading = read-back-by (rowOf reading) (pixelBy reading) (reading-row-back reading) (rangeOf reading) (nearOf reading) (reading-pixels reading)

@@ -17,7 +17,7 @@ use Rattle.pixel.specs.declared.Pixel.{Pixel}
 use Rattle.pixel.specs.Rgbe.{peak, tooBright}
 use Rattle.steps.specs.declared.Reading.{Reading}
 use Rattle.steps.specs.declared.Reading.the-variants.{Crate, Document}
-use Rattle.loss.specs.Kept.{rangeOf}
+use Rattle.loss.specs.Kept.{rangeOf, nearOf}
 use Rattle.header.specs.declared.Head.{Head}
 use Rattle.rows_read.specs.Row.{RowRule, rowOf}
 use Rattle.back.proofs.Laws.Row.{RowsBack, reading-row-back}
@@ -55,11 +55,12 @@ module _ (rowRule : RowRule) (rule : SampleRule) where
         (subst (λ (m : ℕ). P m (readBy rowRule rule (file ++ rest) widest highest out store)) (sym (wrote .size)) p)
 
   module _ (rows : RowsBack rowRule) where
-    pub calls-back-by : (range : ℕ → Type 0) → PixelsBack range rule → (w h : ℕ) (samples : List Float) → AllInRange range samples (w * h) → CallsComeBack rowRule rule w h samples
-    calls-back-by range pixels w h samples all lent left n wrote rest widest highest out out′ store store′ answer enough read =
+    pub calls-back-by : (range : ℕ → Type 0) (near : ℕ → ℕ → ℕ → Type 0) → PixelsBack range near rule → (w h : ℕ) (samples : List Float) → AllInRange range samples (w * h)
+        → CallsComeBack near rowRule rule w h samples
+    calls-back-by range near pixels w h samples all lent left n wrote rest widest highest out out′ store store′ answer enough read =
         let told = write-told w h n samples lent left (sym wrote) in
-        by-calls (fileOf samples w h) lent left n (told .2) rest widest highest out out′ store store′ answer read (λ m z. ReadBack w h m samples out (z .0) (z .1))
-        (read-back-by rowRule rule rows range pixels w h samples (sizes-passed w h (length samples) 3 (told .0)) all rest widest highest out store enough)
+        by-calls (fileOf samples w h) lent left n (told .2) rest widest highest out out′ store store′ answer read (λ m z. ReadBack near w h m samples out (z .0) (z .1))
+        (read-back-by rowRule rule rows range near pixels w h samples (sizes-passed w h (length samples) 3 (told .0)) all rest widest highest out store enough)
 
     pub calls-back4-by : (w h : ℕ) (px : List ℕ) → NoOnes px w (w * h) → CallsComeBack4 rowRule rule w h px
     calls-back4-by w h px none lent left n wrote rest widest highest out out′ store store′ answer enough read =
@@ -68,8 +69,8 @@ module _ (rowRule : RowRule) (rule : SampleRule) where
         (read-back4-by rowRule rule rows w h px (sizes-passed w h (length px) 4 (told .0)) none rest widest highest out store enough)
 
 -- by either reading: `reader::read`
-pub calls-back : (reading : Reading) (w h : ℕ) (samples : List Float) → AllInRange (rangeOf reading) samples (w * h) → CallsComeBack (rowOf reading) (pixelBy reading) w h samples
-calls-back reading = calls-back-by (rowOf reading) (pixelBy reading) (reading-row-back reading) (rangeOf reading) (reading-pixels reading)
+pub calls-back : (reading : Reading) (w h : ℕ) (samples : List Float) → AllInRange (rangeOf reading) samples (w * h) → CallsComeBack (nearOf reading) (rowOf reading) (pixelBy reading) w h samples
+calls-back reading = calls-back-by (rowOf reading) (pixelBy reading) (reading-row-back reading) (rangeOf reading) (nearOf reading) (reading-pixels reading)
 
 pub calls-back4 : (reading : Reading) (w h : ℕ) (px : List ℕ) → NoOnes px w (w * h) → CallsComeBack4 (rowOf reading) (pixelBy reading) w h px
 calls-back4 reading = calls-back4-by (rowOf reading) (pixelBy reading) (reading-row-back reading)

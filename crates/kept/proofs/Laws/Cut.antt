@@ -3,7 +3,6 @@ use Prim.{Unit}
 use Prim.Native.Nat.{ℕ, zero, suc, _+_, _-_, _*_, _<_, _≤_}
 use mathlib.Core.List.{List, []}
 use mathlib.Core.Path.{_≡_, refl, sym, ap, _∙_, subst}
-use native.Mathlib.Nat.{mul-zero}
 use native.Mathlib.Omega.{arith}
 use lib.Ieee.{Float, nan}
 use lib.ListN.{length, getD, set, length-set}
@@ -20,9 +19,9 @@ use Rattle.pixel.specs.declared.Rgbe.{Rgbe}
 use Rattle.pixel.specs.Units.{ofUnits}
 use Rattle.steps.specs.declared.Reading.{Reading}
 use Rattle.steps.specs.declared.Reading.the-variants.{Crate}
-use Rattle.pixel.specs.Rgbe.{scaleOf, unitsOf, rgbeAt}
-use Rattle.pixel.proofs.Laws.Scales.{scale-none}
+use Rattle.pixel.specs.Rgbe.{unitsOf, rgbeAt}
 use Rattle.loss.specs.Kept.{zeros}
+use Rattle.loss.proofs.Laws.Values.{black-zero}
 use Rattle.header.specs.declared.HeadAnswer.the-variants.{Read}
 use Rattle.header.specs.Head.{taking}
 use Rattle.rows_read.specs.Row.{crateRow}
@@ -81,10 +80,9 @@ module _ (bytes : List ℕ) (widest highest : ℕ) (out : List Float) (store : L
 -- ---- A pixel whose exponent byte is 0 is black
 
 pub no-exponent : (reading : Reading) (q : Rgbe) → q .e ≡ 0 → pixelBy reading q ≡ zeros
-unfolding pixelBy unitsOf
+unfolding pixelBy
 no-exponent reading q e =
-    let none : scaleOf reading (q .e) ≡ 0 = scale-none reading (q .e) (omega arith) in
-    let zero-at : (m : ℕ) → m * scaleOf reading (q .e) ≡ 0 = λ m. ap (λ (z : ℕ). m * z) none ∙ mul-zero m in
+    let zero-at : (m : ℕ) → unitsOf reading m (q .e) ≡ 0 = λ m. ap (unitsOf reading m) e ∙ black-zero reading m in
     λ t. record { r = ofUnits (zero-at (q .r) t); g = ofUnits (zero-at (q .g) t); b = ofUnits (zero-at (q .b) t) }
 
 -- ---- The pixels of the last row in the output

@@ -9,7 +9,7 @@ use lib.Ieee.{Float, nan}
 use Rattle.pixel.specs.declared.Pixel.{Pixel}
 use Rattle.pixel.specs.Units.{mag}
 use Rattle.pixel.specs.Rgbe.{crateUnits, pixelOf, peak, bytesOf}
-use Rattle.loss.specs.Kept.{Kept, Lies, step}
+use Rattle.loss.specs.Kept.{Kept, Lies, Below}
 use Rattle.loss.proofs.Laws.Sharp.{next-dark, too-bright}
 use Rattle.steps.specs.declared.Reading.the-variants.{Crate}
 use Rattle.rows_read.specs.Row.{crateRow}
@@ -40,18 +40,18 @@ enough : Enough 1 1 1 1 lent store
 enough = record { wide = lit≤ tt; high = lit≤ tt; room = lit≤ tt; row = lit≤ tt }
 
 -- a pixel that comes back as another which is not within a step of it
-not-back : (x : Float) (back : Pixel) (n : ℕ) → pixelOf crateUnits (bytesOf (pixel (oneRed x) 0)) ≡ back → Lies (pixel (oneRed x) 0) n → (Kept (step n) x (back .r) → ⊥)
-    → ComesBack crateRow cratePixel 1 1 (oneRed x) → ⊥
+not-back : (x : Float) (back : Pixel) (n : ℕ) → pixelOf crateUnits (bytesOf (pixel (oneRed x) 0)) ≡ back → Lies (pixel (oneRed x) 0) n → (Kept (Below n) x (back .r) → ⊥)
+    → ComesBack Below crateRow cratePixel 1 1 (oneRed x) → ⊥
 not-back x back n is lies apart all =
     let there = pixels-back Crate 1 1 (oneRed x) one [] 1 1 lent store enough 0 (lit< tt) ∙ is in
-    apart (subst (λ (q : Pixel). Kept (step n) x (q .r)) there (all [] 1 1 lent store enough .kept 0 n (lit< tt) lies .r))
+    apart (subst (λ (q : Pixel). Kept (Below n) x (q .r)) there (all [] 1 1 lent store enough .kept 0 n (lit< tt) lies .r))
 
 next-below : Lost nextBelow
 unfolding peak mag
 next-below = record {
   numbers = record { r = tt; g = tt; b = tt };
   outside = not-between _ _ _ (lit< tt) (inl (lit< tt));
-  lost = not-back nextBelow _ 117 next-dark (record { from = lit≤ tt; below = lit< tt }) (λ k. above _ _ (lit< tt) (k .at-most));
+  lost = not-back nextBelow _ 117 next-dark (record { from = lit≤ tt; below = lit< tt }) (λ k. above _ _ (lit< tt) (k .value .0));
 }
 
 first-above : Lost firstAbove
@@ -59,7 +59,7 @@ unfolding peak mag
 first-above = record {
   numbers = record { r = tt; g = tt; b = tt };
   outside = not-between _ _ _ (lit< tt) (inr (lit≤ tt));
-  lost = not-back firstAbove _ 181 too-bright (record { from = lit≤ tt; below = lit< tt }) (λ k. far _ _ (lit≤ tt) (k .near));
+  lost = not-back firstAbove _ 181 too-bright (record { from = lit≤ tt; below = lit< tt }) (λ k. far _ _ (lit≤ tt) (k .value .1));
 }
 
 -- below 2^-32, and from 2^31 on

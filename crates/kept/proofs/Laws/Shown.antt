@@ -22,4 +22,4 @@ use Rattle.kept.specs.Shown.{unlit, shown}
 
 pub all-shown : Each shown
 unfolding round size run bytesFrom spread ofUnits mag crateShift scaleOf unitsOf peak tooBright bytesOf packedOf upTo past same isFirst lineTurn linesEnd isBlank trimStart trimEnd fieldsAt axesOf unsigned isDigit allDigits valueFrom isNumber isSize sizeOf fieldsOf headChecks headOf fourTo isRepeat copiesTo crateFlat documentOnes documentFlat flatTurn flatOf isRun spanLength spanBytes spanTaken spanOf crateCount documentCount channelTurn channelOf chansTurn channelsOf isFlatWidth isCoded isMark kindOf early rowBy crateStart documentStart documentMark partsOf rowOf unlit placed stepOf rowTurn rowsOf pixelBy readBy
-all-shown = (refl, (refl, (refl, (refl, (refl, (refl, (refl, (refl, (refl, (refl, (refl, (refl, (refl, (refl, (refl, (refl, (refl, (refl, (refl, (refl, (refl, tt)))))))))))))))))))))
+all-shown = (refl, (refl, (refl, (refl, (refl, (refl, (refl, (refl, (refl, (refl, (refl, (refl, (refl, (refl, (refl, (refl, (refl, (refl, (refl, (refl, (refl, (refl, (refl, tt)))))))))))))))))))))))

@@ -20,4 +20,4 @@ use Rattle.kept.specs.Skies.{skies, Each}
 
 pub all-skies : Each skies
 unfolding round size run bytesFrom spread ofUnits mag crateShift scaleOf unitsOf peak tooBright bytesOf packedOf upTo past same isFirst lineTurn linesEnd isBlank trimStart trimEnd fieldsAt axesOf unsigned isDigit allDigits valueFrom isNumber isSize sizeOf fieldsOf headChecks headOf fourTo isRepeat copiesTo crateFlat documentOnes documentFlat flatTurn flatOf isFlatWidth isCoded rowBy partsOf rowOf grow cut stretch gather code placed stepOf rowTurn rowsOf pixelBy readBy
-all-skies = (refl, (refl, (refl, (refl, (refl, (refl, (refl, (refl, (refl, (refl, (refl, (refl, (refl, (refl, (refl, (refl, (refl, tt)))))))))))))))))
+all-skies = (refl, (refl, (refl, (refl, (refl, (refl, (refl, (refl, (refl, (refl, (refl, (refl, (refl, (refl, (refl, (refl, (refl, (refl, (refl, (refl, tt))))))))))))))))))))

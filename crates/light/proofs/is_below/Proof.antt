@@ -1,4 +1,4 @@
--- `light::is_below` meets its contract: nothing is shifted out, and powers from 2^8 on decide alike.
+-- `light::is_below` meets its contract: nothing is shifted out, and powers from 2^9 on decide alike.
 use borrow.Author.Needs.{needs}
 use Rattle.light.proofs.Laws.Light.{below-shifted}
 use Rattle.light.proofs.is_below.Statement.{statement}

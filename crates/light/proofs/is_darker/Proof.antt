@@ -4,14 +4,14 @@ use Rattle.light.proofs.Laws.Light.{darker-test}
 use Rattle.light.proofs.is_darker.Statement.{statement}
 use Rattle.light.proofs.is_darker.Tie as tie
 
-mantissa-requires : tie.Need-mantissa-requires
-mantissa-requires c κs = search needs
+count-requires : tie.Need-count-requires
+count-requires c κs = search needs
 
 shift-requires : tie.Need-shift-requires
 shift-requires c κs = search needs
 
-mantissa-requires-2 : tie.Need-mantissa-requires-2
-mantissa-requires-2 c κs = search needs
+count-requires-2 : tie.Need-count-requires-2
+count-requires-2 c κs = search needs
 
 shift-requires-2 : tie.Need-shift-requires-2
 shift-requires-2 c κs = search needs
@@ -26,9 +26,9 @@ pub is-darker-spec : {M : Type 1} → statement M
 is-darker-spec =
     tie.close
     (tie.spec
-    mantissa-requires
+    count-requires
     shift-requires
-    mantissa-requires-2
+    count-requires-2
     shift-requires-2
     is-below-requires
     returns)

@@ -9,7 +9,7 @@ use Rattle.pixel.proofs.Laws.Scales.{shift-least, shift-most}
 use Rattle.light.proofs.shift.Statement.{statement}
 use Rattle.light.proofs.shift.Tie as tie
 
-within : (reading : Reading) (e r : ℕ) → e < 256 → r ≡ shiftOf reading e → (r ≡ shiftOf reading e) × ((13 ≤ r) × (r ≤ 268))
+within : (reading : Reading) (e r : ℕ) → e < 256 → r ≡ shiftOf reading e → (r ≡ shiftOf reading e) × ((12 ≤ r) × (r ≤ 267))
 within reading e r h is = (is, (omega (arith, shift-least reading e), omega (arith, shift-most reading e h)))
 
 shift-requires : tie.Need-shift-requires

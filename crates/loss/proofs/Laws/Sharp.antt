@@ -1,7 +1,7 @@
 -- No bound of the claims is loose: pixels at the edge of each, computed. The last byte 22 is that of `first-is-light` in `Dark`.
 use mathlib.Core.Path.{_≡_, refl}
 use mathlib.Core.Bool.{false}
-use Prim.Native.Nat.{ℕ, _-_, _^_}
+use Prim.Native.Nat.{ℕ, _+_, _-_, _^_}
 use lib.IntN.{pos, negsuc}
 use lib.Dec.{lit≤}
 use lib.Ieee.{Float, fin, round, size, ofBits}
@@ -56,6 +56,18 @@ too-bright = refl
 pub most-lost : back (record { r = fin false 1 (pos 0); g = fin false (2 ^ 24 - 1) (negsuc 30); b = zero }) ≡ red (fin false 1 (pos 0))
 unfolding round size ofUnits mag crateShift scaleOf unitsOf peak bytesOf
 most-lost = refl
+
+-- by the document reading 1 comes back half a step above, and zeros beside it too; the f32 next below 1 + 2^-7 comes back as the same
+abbrev middle : Pixel
+middle = record { r = fin false 257 (negsuc 7); g = fin false 1 (negsuc 7); b = fin false 1 (negsuc 7) }
+
+pub most-above : pixelOf docUnits (bytesOf (red (fin false 1 (pos 0)))) ≡ middle
+unfolding round size ofUnits mag scaleOf unitsOf peak bytesOf
+most-above = refl
+
+pub most-below : pixelOf docUnits (bytesOf (red (fin false (2 ^ 23 + 2 ^ 16 - 1) (negsuc 22)))) ≡ middle
+unfolding round size ofUnits mag scaleOf unitsOf peak bytesOf
+most-below = refl
 
 -- by the document reading the f32 nearest to 1e-32 comes back as 0
 pub last-black-back : pixelOf docUnits (bytesOf (grey lastBlack)) ≡ zeros

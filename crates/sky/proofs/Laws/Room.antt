@@ -21,9 +21,7 @@ use Rattle.rows_written.proofs.Laws.Worst.{row-worst}
 use Rattle.window.specs.Header.{HeadWithin}
 use Rattle.window.specs.Row.{RowWithin}
 use Rattle.window.specs.declared.head.HeadPart.{HeadPart}
-use Rattle.window.specs.declared.head.HeadPart.the-variants as head
 use Rattle.window.specs.declared.RowPart.{RowPart}
-use Rattle.window.specs.declared.RowPart.the-variants as row
 
 -- ---- A row as it is written
 
@@ -57,16 +55,16 @@ header-half w h n kw kh e = omega (arith, header-short w h kw kh)
 
 -- ---- A power of two
 
-power-small : (j : ℕ) → j ≤ 39 → 2 ^ j ≤ 1000000000000
-power-small j h = omega (arith, pow-mono {i = j} {j = 39} h)
+power-small : (j : ℕ) → j ≤ 40 → 2 ^ j ≤ 2000000000000
+power-small j h = omega (arith, pow-mono {i = j} {j = 40} h)
 
-pub power-is : (j : ℕ) → j ≤ 39 → (1 * 2 ^ j) % 2 ^ 64 ≡ 2 ^ j
+pub power-is : (j : ℕ) → j ≤ 40 → (1 * 2 ^ j) % 2 ^ 64 ≡ 2 ^ j
 power-is j h =
     let k : 1 + j ≤ 64 = omega arith in
     let one : 1 * 2 ^ j ≡ 2 ^ j = omega arith in
     shl-exact {a = 1} 1 j 64 (omega arith) k ∙ one
 
-pub power-bounds : (j : ℕ) → j ≤ 39 → (0 < (1 * 2 ^ j) % 2 ^ 64) × ((1 * 2 ^ j) % 2 ^ 64 ≤ 1000000000000)
+pub power-bounds : (j : ℕ) → j ≤ 40 → (0 < (1 * 2 ^ j) % 2 ^ 64) × ((1 * 2 ^ j) % 2 ^ 64 ≤ 2000000000000)
 power-bounds j h = rw (power-is j h) (pow-pos j, power-small j h)
 
 pub rest-less : (n unit : ℕ) → 0 < unit → n % unit < unit
@@ -74,10 +72,10 @@ rest-less n unit h = mod-lt n h
 
 -- ---- Light
 
-pub dim-short : (m s : ℕ) → m < 256 → 13 ≤ s → Short (m * 5 ^ (149 - s))
+pub dim-short : (m s : ℕ) → m < 512 → 12 ≤ s → Short (m * 5 ^ (149 - s))
 dim-short m s h k = short-fifths m (149 - s) h (omega arith)
 
-pub bright-short : (m s : ℕ) → m < 256 → s ≤ 268 → Short (m * 2 ^ (s - 149))
+pub bright-short : (m s : ℕ) → m < 512 → s ≤ 267 → Short (m * 2 ^ (s - 149))
 bright-short m s h k = short-doubles m (s - 149) h (omega arith)
 
 -- ---- A part of what is held

@@ -1,6 +1,6 @@
 -- The laws of `specs/Stops.antt`.
 use Prim.Native.Nat.{ℕ, zero, suc, _+_, _-_, _*_, _%_, _^_, _<_, _≤_, max}
-use mathlib.Core.Bool.{Bool, true, false, _&&_}
+use mathlib.Core.Bool.{Bool, true, false, _&&_, false≢true}
 use mathlib.Core.Logic.{⊎-elim}
 use mathlib.Core.List.{List}
 use mathlib.Core.Path.{_≡_, refl, sym, _∙_}
@@ -12,10 +12,12 @@ use lib.ListN.{getD, set}
 use lib.Pow.{pow-pos}
 use Rattle.steps.proofs.Laws.Order.{lt-or-ge}
 use Rattle.steps.proofs.Laws.Turns.{and-left, and-right}
+use Rattle.steps.specs.declared.Reading.the-variants.{Document}
 use Rattle.pixel.proofs.Laws.Numbers.{pow-pow}
 use Rattle.pixel.specs.declared.Rgbe.{Rgbe}
 use Rattle.pixel.specs.Rgbe.{rgbeAt}
-use Rattle.light.specs.Light.{isBlack}
+use Rattle.light.specs.Light.{lightOf, topOf, isBlack}
+use Rattle.light.proofs.Laws.Light.{top-none, top-some, light-is, black-test}
 use Rattle.survey.specs.Stops.{reached, digits, stopOf, stopsOf}
 
 pub reached-not : (m p : ℕ) → m < p → 0 ≡ reached m p
@@ -29,7 +31,7 @@ pub digits-are : (m a b c d e f g h : ℕ) → a ≡ reached m 1 → b ≡ reach
 unfolding digits
 digits-are m a b c d e f g h ea eb ec ed ee ef eg eh = rw (ea, eb, ec, ed, ee, ef, eg, eh)
 
-module _ (q : Rgbe) (t : Bool) (et : t ≡ isBlack q) where
+module _ (q : Rgbe) (t : Bool) (et : t ≡ isBlack Document q) where
   pub stop-black : t ≡ true → 0 ≡ stopOf q
   unfolding stopOf
   stop-black u = simp (sym et ∙ u)
@@ -72,14 +74,17 @@ fit-of (suc n) m e h = ⊎-elim (λ (less : m < n). fit-of n m (and-right (fits 
     here : m ≡ n → fits m ≡ true
     here z = rw z (and-left (fits n) (all n) e)
 
--- light that is shown lies in the power of two of its stop: 2^137 times it is (2m + 1) 2^E
-pub stop-power : (q : Rgbe) (m : ℕ) → isBlack q ≡ false → m ≡ max (max (q .r) (q .g)) (q .b) → m < 256
-    → (2 ^ stopOf q ≤ (2 * m + 1) * 2 ^ q .e) × ((2 * m + 1) * 2 ^ q .e < 2 ^ (stopOf q + 1))
-stop-power q m t em h =
-    let f = fit-of 256 m all-fit h in
+-- light that is shown lies in the power of two of its stop: from 2^(stop - 137), which is 2^(stop + 12) times 2^-149, to below twice that
+pub stop-power : (q : Rgbe) → isBlack Document q ≡ false → q .r < 256 → q .g < 256 → q .b < 256 → (2 ^ (stopOf q + 12) ≤ lightOf Document q) × (lightOf Document q < 2 ^ (stopOf q + 13))
+stop-power q t hr hg hb =
+    let m : ℕ = max (max (q .r) (q .g)) (q .b) in
+    let f = fit-of 256 m all-fit (omega arith) in
     let low : 2 ^ digits m ≤ 2 * m + 1 = leb-true (2 ^ digits m) (2 * m + 1) (and-left (leb (2 ^ digits m) (2 * m + 1)) (ltb (2 * m + 1) (2 ^ (digits m + 1))) f) in
     let high : 2 * m + 1 < 2 ^ (digits m + 1) = ltb-true (2 * m + 1) (2 ^ (digits m + 1)) (and-right (leb (2 ^ digits m) (2 * m + 1)) (ltb (2 * m + 1) (2 ^ (digits m + 1))) f) in
-    let stop : q .e + digits m ≡ stopOf q = stop-light q (isBlack q) refl (max (q .r) (q .g)) m (digits m) (q .e) t refl refl em refl in
-    let one : digits m + q .e ≡ stopOf q = omega arith in
-    let two : digits m + 1 + q .e ≡ stopOf q + 1 = omega arith in
-    (rw (← pow-pow (digits m) (q .e) (stopOf q) one) (mul-le-mul-right (2 ^ q .e) low), rw (← pow-pow (digits m + 1) (q .e) (stopOf q + 1) two) (mul-lt-mul-of-pos-right high (pow-pos (q .e))))
+    let stop : q .e + digits m ≡ stopOf q = stop-light q (isBlack Document q) refl (max (q .r) (q .g)) m (digits m) (q .e) t refl refl refl refl in
+    let one : digits m + (q .e + 12) ≡ stopOf q + 12 = omega arith in
+    let two : digits m + 1 + (q .e + 12) ≡ stopOf q + 13 = omega arith in
+    let dark : q .e ≡ 0 → ⊥ = λ z. false≢true (sym t ∙ sym (black-test Document q 0 (top-none Document q z))) in
+    let top : 2 * m + 1 ≡ topOf Document q = top-some Document q (max (q .r) (q .g)) m (2 * m + 1) dark refl refl refl in
+    let light : (2 * m + 1) * 2 ^ (q .e + 12) ≡ lightOf Document q = rw top (light-is Document q) in
+    rw (← light) (rw (← pow-pow (digits m) (q .e + 12) (stopOf q + 12) one) (mul-le-mul-right (2 ^ (q .e + 12)) low), rw (← pow-pow (digits m + 1) (q .e + 12) (stopOf q + 13) two) (mul-lt-mul-of-pos-right high (pow-pos (q .e + 12))))

@@ -31,9 +31,9 @@ darker-self reading q = simp one-arm
 darker-twice : (reading : Reading) (p q : Rgbe) → darker reading (darker reading p q) q ≡ darker reading p q
 unfolding darker
 darker-twice reading p q =
-    by-test (λ (x : Rgbe). darker reading x q ≡ x) (isBlack q)
+    by-test (λ (x : Rgbe). darker reading x q ≡ x) (isBlack reading q)
     (λ t. simp t)
-    (λ t. by-test (λ (x : Rgbe). darker reading x q ≡ x) (isBlack p)
+    (λ t. by-test (λ (x : Rgbe). darker reading x q ≡ x) (isBlack reading p)
     (λ u. darker-self reading q)
     (λ u. by-test (λ (x : Rgbe). darker reading x q ≡ x) (ltb (lightOf reading q) (lightOf reading p))
     (λ v. darker-self reading q)
@@ -52,10 +52,10 @@ times-more a n false = omega arith
 
 seen-more : (reading : Reading) (n : ℕ) (q : Rgbe) (t : Totals) → seenTimes reading n q (seenTimes reading 1 q t) ≡ seenTimes reading (suc n) q t
 unfolding seenTimes
-seen-more reading n q t = simp (times-more (t .black) n (isBlack q), times-more (t .masked) n (isMasked q), darker-twice reading (t .darkest) q, brighter-twice reading (t .brightest) q)
+seen-more reading n q t = simp (times-more (t .black) n (isBlack reading q), times-more (t .masked) n (isMasked reading q), darker-twice reading (t .darkest) q, brighter-twice reading (t .brightest) q)
 
 -- the record, from what its fields are
-pub seen-is : (reading : Reading) (n : ℕ) (q : Rgbe) (t : Totals) (x y : Bool) (m l : ℕ) (d b : Rgbe) → x ≡ isBlack q → m ≡ times x n → y ≡ isMasked q → l ≡ times y n → d ≡ darker reading (t .darkest) q
+pub seen-is : (reading : Reading) (n : ℕ) (q : Rgbe) (t : Totals) (x y : Bool) (m l : ℕ) (d b : Rgbe) → x ≡ isBlack reading q → m ≡ times x n → y ≡ isMasked reading q → l ≡ times y n → d ≡ darker reading (t .darkest) q
     → b ≡ brighter reading (t .brightest) q → _≡_ {A = Totals} (record { black = t .black + m; masked = t .masked + l; darkest = d; brightest = b }) (seenTimes reading n q t)
 unfolding seenTimes
 seen-is reading n q t x y m l d b ex em ey el ed eb = rw (em, ex, el, ey, ed, eb)

@@ -15,8 +15,8 @@ text-requires c κs = search needs
 returns : tie.Need-returns
 returns c = search needs
 
-mantissa-requires : tie.Need-mantissa-requires
-mantissa-requires c κs = search needs
+count-requires : tie.Need-count-requires
+count-requires c κs = search needs
 
 shift-requires : tie.Need-shift-requires
 shift-requires c κs = search needs
@@ -35,7 +35,7 @@ say-brief-spec =
     slice-aggregate-text
     text-requires
     returns
-    mantissa-requires
+    count-requires
     shift-requires
     say-decimal-requires
     returns-2)

@@ -18,8 +18,8 @@ text-requires-2 c κs = search needs
 returns : tie.Need-returns
 returns c = search needs
 
-mantissa-requires : tie.Need-mantissa-requires
-mantissa-requires c κs = search needs
+count-requires : tie.Need-count-requires
+count-requires c κs = search needs
 
 shift-requires : tie.Need-shift-requires
 shift-requires c κs = search needs
@@ -75,7 +75,7 @@ say-light-spec =
     slice-aggregate-text
     text-requires-2
     returns
-    mantissa-requires
+    count-requires
     shift-requires
     say-decimal-requires
     slice-aggregate-text-2

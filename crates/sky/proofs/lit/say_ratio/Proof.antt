@@ -1,4 +1,4 @@
--- `sky::lit::say_ratio` is safe: what is left is below one, and there are at most 39 decimals.
+-- `sky::lit::say_ratio` is safe: what is left is below one, and there are at most 40 decimals.
 use borrow.Author.Needs.{needs}
 use Rattle.sky.proofs.Laws.Room.{rest-less}
 use Rattle.sky.proofs.lit.say_ratio.Statement.{statement}
