@@ -30,6 +30,11 @@ def file(w, h, rows=()):
     return f"#?RGBE\n\n-Y {h} +X {w}\n".encode() + bytes(rows)
 
 
-def samples_of(pixels):
-    """The document's samples of four-byte pixels, which have an exponent byte above 0."""
+def lower_edges(pixels):
+    """The crate reading's samples of four-byte pixels, which have an exponent byte from 97 to 159."""
     return "".join(struct.pack(">f", m * 2.0 ** (pixel[3] - 136)).hex() for pixel in pixels for m in pixel[:3])
+
+
+def middles(pixels):
+    """The document reading's samples of four-byte pixels, which have an exponent byte above 0: half a step above the lower edge."""
+    return "".join(struct.pack(">f", (m + 0.5) * 2.0 ** (pixel[3] - 136)).hex() for pixel in pixels for m in pixel[:3])

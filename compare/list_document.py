@@ -1,6 +1,6 @@
 """The fixed list's lines of the document reading: `by_hand` with their answers, `by_reading` those that compare/reading.py answers."""
 
-from lines import file, hexed, lent, lent_samples, samples_of
+from lines import file, hexed, lent, lent_samples, middles
 
 P, Q = [10, 20, 30, 129], [40, 50, 60, 130]
 TWO = [2, 3, 4, 129]  # a pixel that starts with 2 and is no mark
@@ -29,7 +29,7 @@ def told(number, w, h, rows, shown, store=None, behind=()):
     """A reading that is done, or refused in the row after the pixels that are shown; and the row store, which ends in zeros."""
     data = file(w, h, rows)
     store = sum(shown[-w:], []) if store is None else store
-    out = samples_of(shown) + lent_samples(3 * w * h)[24 * len(shown):]
+    out = middles(shown) + lent_samples(3 * w * h)[24 * len(shown):]
     words = f"{number} {len(shown) // w} 0 0 0" if number else f"0 0 {w} {h} {len(data)}"
     line = f"readd 65535 65535 {3 * w * h} {4 * w} {hexed(data + bytes(behind))}"
     return line, f"{words} {out} {hexed(store + [0] * (4 * w - len(store)))}"
@@ -128,23 +128,48 @@ def memory():
         yield f"readd 9 9 6 3 {data}", f"8 0 0 0 0 {lent_samples(6)} {lent(3)}"
         yield f"readd 9 1 6 4 {data}", f"4 0 0 0 0 {lent_samples(6)} {lent(4)}"
         yield f"readd 0 9 6 4 {data}", f"5 0 0 0 0 {lent_samples(6)} {lent(4)}"
-    yield f"readd 9 9 8 6 {fault}", f"14 1 0 0 0 {samples_of([P])}{lent_samples(8)[24:]} {hexed(P + [4, 5])}"
-    yield f"readd 9 9 8 6 {sound}", f"0 0 1 2 26 {samples_of([P, Q])}{lent_samples(8)[48:]} {hexed(Q + [4, 5])}"
+    yield f"readd 9 9 8 6 {fault}", f"14 1 0 0 0 {middles([P])}{lent_samples(8)[24:]} {hexed(P + [4, 5])}"
+    yield f"readd 9 9 8 6 {sound}", f"0 0 1 2 26 {middles([P, Q])}{lent_samples(8)[48:]} {hexed(Q + [4, 5])}"
     yield f"readd 9 9 0 0 {hexed(file(0, 1, run(5)))}", "7 0 0 0 0 - -"
     yield f"readd 9 9 0 4 {hexed(file(1, 0, run(5)))}", "0 0 1 0 18 - 00000000"
     # rows of w in both orders of the axes
-    yield f"readd 9 9 6 8 {hexed(b'#?RGBE' + bytes([10, 10]) + b'+X 2 -Y 1' + bytes([10] + P + Q))}", f"0 0 2 1 26 {samples_of([P, Q])} {hexed(P + Q)}"
+    yield f"readd 9 9 6 8 {hexed(b'#?RGBE' + bytes([10, 10]) + b'+X 2 -Y 1' + bytes([10] + P + Q))}", f"0 0 2 1 26 {middles([P, Q])} {hexed(P + Q)}"
 
 
 def values():
-    """Samples at the ends of the exponent bytes and around 97 and 159, subnormal ones too; 0 at exponent byte 0."""
+    """Samples at the ends of the exponent bytes and around 97 and 159, subnormal ones too; 0 at exponent byte 0, and nowhere else."""
     for four, samples in (
-        ([255, 255, 255, 0], "000000000000000000000000"),
-        ([128, 1, 255, 1], "00200000" "00004000" "003fc000"),
-        ([128, 64, 32, 129], "3f8000003f0000003e800000"),
-        ([128, 1, 0, 96], "2f000000" "2b800000" "00000000"),
-        ([128, 1, 0, 160], "4f000000" "4b800000" "00000000"),
-        ([128, 255, 0, 255], "7e800000" "7eff0000" "00000000"),
+        # 0 whatever the mantissas are
+        ([0, 0, 0, 0], "00000000" * 3),
+        ([0, 1, 255, 0], "00000000" * 3),
+        ([255, 255, 255, 0], "00000000" * 3),
+        # 257, 3 and 511 halves of the least step, 2^-136; 257, 129 and 65 of 2^-8
+        ([128, 1, 255, 1], "00202000" "00006000" "003fe000"),
+        ([128, 64, 32, 129], "3f808000" "3f010000" "3e820000"),
+        # sample sky 4: 257 * 2^-41 and 257 * 2^23
+        ([128, 0, 0, 96], "2f008000" "2b000000" "2b000000"),
+        ([128, 0, 0, 160], "4f008000" "4b000000" "4b000000"),
+        ([128, 1, 0, 96], "2f008000" "2bc00000" "2b000000"),
+        ([128, 1, 0, 160], "4f008000" "4bc00000" "4b000000"),
+        # where the crate's sample is half a step below: 2^-39 and 0, and 2^30, 2^29, 2^28
+        ([1, 0, 0, 97], "2c400000" "2b800000" "2b800000"),
+        ([128, 64, 32, 159], "4e808000" "4e010000" "4d820000"),
+        # the brightest, 511 * 2^118
+        ([128, 255, 0, 255], "7e808000" "7eff8000" "7a800000"),
+        ([255, 255, 255, 255], "7eff8000" * 3),
+        # a mantissa of 0 is half a step, 2^(E-137): the least of all is 2^-136, and 2^-126 the first that is not subnormal
+        ([0, 0, 0, 1], "00002000" * 3),
+        ([0, 0, 0, 9], "00200000" * 3),
+        ([0, 0, 0, 10], "00400000" * 3),
+        ([0, 0, 0, 11], "00800000" * 3),
+        ([0, 0, 0, 22], "06000000" * 3),
+        ([0, 0, 0, 97], "2b800000" * 3),
+        ([0, 0, 0, 128], "3b000000" * 3),
+        ([0, 0, 0, 159], "4a800000" * 3),
+        ([0, 0, 0, 255], "7a800000" * 3),
+        # subnormal beside what is not, in one pixel
+        ([0, 1, 255, 9], "00200000" "00600000" "03ff8000"),
+        ([0, 1, 255, 10], "00400000" "00c00000" "047f8000"),
     ):
         yield f"readd 9 9 3 4 {hexed(file(1, 1, four))}", f"0 0 1 1 22 {samples} {hexed(four)}"
 

@@ -201,11 +201,11 @@ def ours_read_by_them(random, folder):
     return [bytes_row, *rows], notes
 
 
-def theirs_read_by_us(random, folder, call, name, low, high):
-    """Files that each program writes, read by us: within demand 3's range for that reading, so it is the lower edge."""
-    table = []
+def theirs_read_by_us(random, folder, call, name, edge, low, high):
+    """Files that each program writes, read by us, within demand 3's range for that reading: by the document it is the middle, else the lower edge."""
+    table, predicted = [], {"lower edge": lower_edge, "middle": middle}[edge]
     for program in PROGRAMS:
-        row = Row(program.name, name, "lower edge, whole file taken")
+        row = Row(program.name, name, edge + ", whole file taken")
         lines, expected = [], []
         for number, frame in enumerate(frames(random, low, high)):
             height, width, _ = frame.shape
@@ -215,7 +215,7 @@ def theirs_read_by_us(random, folder, call, name, low, high):
                 data = file.read()
             pixels = decode(split_file(data, width, height), width, height)
             lines.append(f"{call} 65535 65535 {3 * width * height} {4 * width} " + hexadecimal(data))
-            expected.append((["0", "0", str(width), str(height), str(len(data))], lower_edge(pixels, frame.shape)))
+            expected.append((["0", "0", str(width), str(height), str(len(data))], predicted(pixels, frame.shape)))
         for answer, (words, values) in zip(ask(lines), expected):
             found = numpy.frombuffer(bytes.fromhex(answer[5]), ">f4") if answer[:5] == words else []
             row.add(found, values)
@@ -227,27 +227,35 @@ def theirs_read_by_us(random, folder, call, name, low, high):
 
 
 def half_step(pixels, shape):
-    """What the middle of a step lies above its lower edge."""
+    """What the middle of a step lies above its lower edge; nothing at exponent byte 0."""
     return middle(pixels, shape) - lower_edge(pixels, shape)
 
 
+def patterns(samples):
+    """The samples' bits, for those that have to be the same to the bit."""
+    return samples.astype("<f4").view("<u4")
+
+
 def read_alike(files, programs, what, folder):
-    """Files, each with its four-byte pixels, read by us by the document and by the programs: the same, or half a step apart where a program gives the middle."""
+    """Files, each with its four-byte pixels, read by us by the document and by the programs: the same to the bit, or half a step above a program that
+    gives the lower edge. The half step is taken off ours, so that a program's inexact factor is measured against what it should give."""
     lines = [f"readd 65535 65535 {3 * w * h} {4 * w} " + hexadecimal(data) for w, h, data, _ in files]
     ours = ask(lines)
-    rows = [Row(what, f"ours by the document, and {p.name}", "alike" if p.edge == "lower edge" else "half a step apart") for p in programs]
+    rows = [Row(what, f"ours by the document, and {p.name}", "alike" if p.edge == "middle" else "half a step apart") for p in programs]
     inexact = dict(zip((p.name for p in PROGRAMS), inexact_factors(folder)))
     path = os.path.join(folder, "alike.hdr")
     for (w, h, data, pixels), answer in zip(files, ours):
         with open(path, "wb") as file:
             file.write(data)
         done = answer[:5] == ["0", "0", str(w), str(h), str(len(data))]
-        samples = numpy.frombuffer(bytes.fromhex(answer[5]), ">f4").astype(float).reshape(h, w, 3) if done else numpy.zeros(0)
+        samples = numpy.frombuffer(bytes.fromhex(answer[5]), ">f4").astype(float).reshape(h, w, 3) if done else numpy.full((h, w, 3), numpy.nan)
         at = numbers(pixels)[3::4].repeat(3)
         for row, program in zip(rows, programs):
-            found = program.read(path).astype(float)
-            apart = half_step(pixels, (h, w)) if program.edge == "middle" else 0
-            row.add(found - apart, samples, numpy.isin(at, inexact.get(program.name, [])))
+            found = program.read(path)
+            if program.edge == "middle":
+                row.add(patterns(found), patterns(samples))
+            else:
+                row.add(found.astype(float), samples - half_step(pixels, (h, w)), numpy.isin(at, inexact.get(program.name, [])))
     return rows
 
 
@@ -258,6 +266,7 @@ def every_exponent():
         pixels = bytes(b for e in range(start, start + 64) for m in range(256) for b in (m, 255 - m, (m + 85) % 256, e))
         length, data = ask([f"write4 256 64 70000 {pixels.hex()}"])[0][2:]
         files.append((256, 64, bytes.fromhex(data)[:int(length)], pixels))
+    assert len({(m, e) for *_, pixels in files for m, e in zip(pixels[::4], pixels[3::4])}) == 65536, "a pair is missing"
     return files
 
 
@@ -339,8 +348,8 @@ def main():
         progress("files that we write, read by others")
         table, notes = ours_read_by_them(random, folder)
         progress("files that others write, read by us")
-        table += theirs_read_by_us(random, folder, "read", "ours", -31, 31)
-        table += theirs_read_by_us(random, folder, "readd", "ours by the document", -100, 127)
+        table += theirs_read_by_us(random, folder, "read", "ours", "lower edge", -31, 31)
+        table += theirs_read_by_us(random, folder, "readd", "ours by the document", "middle", -100, 127)
         progress("every exponent byte, and old runs")
         table += read_alike(every_exponent(), [OpenCV, OpenImageIO_, Image, Vips], "ours, every exponent byte", folder)
         table += read_alike(files_with_old_runs(random, 200), [Image, Vips], "files with old runs", folder)

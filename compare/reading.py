@@ -130,8 +130,8 @@ def row(source, store, width):
 
 
 def sample(mantissa, exponent):
-    """m * 2^(E-136), and 0 where E is 0: exact in Python's numbers, and an f32."""
-    return mantissa * 2.0 ** (exponent - 136) if exponent else 0.0
+    """(2m + 1) * 2^(E-137), the middle of the step, and 0 where E is 0: exact in Python's numbers, and an f32."""
+    return (2 * mantissa + 1) * 2.0 ** (exponent - 137) if exponent else 0.0
 
 
 PATTERNS = [[struct.pack(">f", sample(m, e)) for m in range(256)] for e in range(256)]

@@ -148,13 +148,14 @@ def worst(width, height):
 
 
 def light(reading, four):
+    """A number and a power of two: 2m + 1 half steps by the document, m steps by the crate. The number of a black pixel is 0."""
     m, e = max(four[:3]), four[3]
-    if e == 0 or m == 0:
+    if e == 0:
         return (0, 0)
+    if reading == DOCUMENT:
+        return (2 * m + 1, e - 137)
     d = e - 128
-    if reading == CRATE:
-        d = d % 32 if d > 0 else -((-d) % 32)
-    return (m, d - 8)
+    return (m, (d % 32 if d > 0 else -((-d) % 32)) - 8)
 
 
 def value(lit):
@@ -162,9 +163,9 @@ def value(lit):
 
 
 def decimal(lit):
-    """Exactly from 2^-39 to below 2^63, else the first nine digits and a power of ten."""
+    """Exactly where the power of two is from -40 to 55, else the first nine digits, the rest cut off, and a power of ten."""
     x = value(lit)
-    if not -39 <= lit[1] <= 55:
+    if not -40 <= lit[1] <= 55:
         power = 0
         while x >= 10:
             x, power = x / 10, power + 1
@@ -238,12 +239,12 @@ def refused(name, number="-", row="-", width="-", height="-"):
 
 
 def stops(reading, name, file, width, height, start):
-    """The lines of `stops` for a whole file: light as the Radiance document has it, (2m + 1) 2^(E - 137)."""
+    """The lines of `stops` for a whole file: rows by the reading, and light by the document, (2m + 1) 2^(E - 137)."""
     store, at, counts, black = bytearray(4 * width), start, {}, 0
     for _ in range(height):
         at = read_row(reading, file, at, store, width)
         for q in (store[i : i + 4] for i in range(0, 4 * width, 4)):
-            if max(q[:3]) == 0 or q[3] == 0:
+            if q[3] == 0:
                 black += 1
             else:
                 power = (2 * max(q[:3]) + 1).bit_length() - 1 + q[3] - 137
@@ -675,12 +676,12 @@ def tables():
     """One line to a file."""
     keep("black.hdr", header(8, 1) + bytes(32))
     want = ["\t".join(NAMES)]
-    want += [whole(answer(name, load(name), w, h, len(header(w, h)))) for name, w, h in (("small.hdr", 9, 2), ("wide.hdr", 40000, 3), ("black.hdr", 8, 1))]
+    want += [whole(answer(name, load(name), w, h, len(header(w, h)))) for name, w, h in (("small.hdr", 9, 2), ("wide.hdr", 40000, 3), ("black.hdr", 8, 1), ("saved-dark.hdr", 3, 2))]
     want += [whole(answer("none.hdr", load("none.hdr"), 3, 0, 22)), refused("gone.hdr"), refused("axes", 2), refused("digits", 3), refused("returns", 1)]
     want += [refused("returns-long"), refused("over", "-", 20, 8, 40), refused("torn.hdr", 9, 0, 9, 2)]
     got, status, said = run("info", "--brief", *(line.split("\t")[-1] for line in want[1:]))
     check("a table", got == want + [""] and status == 1)
-    check("how many", said == "sky: 4 whole, 7 refused\n")
+    check("how many", said == "sky: 5 whole, 7 refused\n")
     if got != want + [""]:
         print("\n".join("    %s\n    %s" % pair for pair in zip(got, want) if pair[0] != pair[1]))
     got, status, said = run("info", "--brief", "small.hdr", "small.hdr")
@@ -753,16 +754,55 @@ def lights():
     """Light from the darkest to the brightest that a pixel can have."""
     names = []
     for e in range(256):
-        for m in (1, 128, 177, 255):
+        for m in (0, 1, 128, 177, 255):
             names.append("light-%d-%d" % (m, e))
             keep(names[-1], header(1, 1) + bytes([m, 0, 0, e]))
     for reading in (DOCUMENT, CRATE):
         want = [line for name in names for line in answer(name, load(name), 1, 1, len(header(1, 1)), reading)]
         expect(" ".join(("every light", *reading)), want, 0, "info", *reading, *names)
+    for name, by_document, by_crate in (
+        ("light-128-129", "1.00390625 = 257 x 2^-8", "1 = 128 x 2^-7"),
+        ("light-128-96", "1.16870069e-10 = 257 x 2^-41", "0.5 = 128 x 2^-8"),
+        ("light-128-160", "2155872256 = 257 x 2^23", "0.5 = 128 x 2^-8"),
+        ("light-255-255", "1.69808876e38 = 511 x 2^118", "2139095040 = 255 x 2^23"),
+    ):
+        for reading, lit in ((DOCUMENT, by_document), (CRATE, by_crate)):
+            check(" ".join(("by hand", *reading, name)), run("info", *reading, name)[0][5:7] == ["  darkest pixel    " + lit, "  brightest pixel  " + lit])
     for order in (("--brief", "--crate"), ("--crate", "--brief")):
         got, status, _ = run("info", *order, names[-1], "small.hdr")
         want = [whole(answer(name, load(name), w, h, len(header(w, h)), CRATE)) for name, w, h in ((names[-1], 1, 1), ("small.hdr", 9, 2))]
         check("a table by " + " ".join(order), got == ["\t".join(NAMES)] + want + [""] and status == 0)
+
+
+NONE = "none, every pixel is black"
+DIM = (  # pixels 0,0,0,E: a name, six exponent bytes, and by hand the darkest and the brightest, how many are black and how many outside
+    ("saved-dark.hdr", (128,) * 6, "0.001953125 = 1 x 2^-9", "0.001953125 = 1 x 2^-9", 0, 0),
+    ("half-black.hdr", (0, 128, 0, 134, 0, 128), "0.001953125 = 1 x 2^-9", "0.125 = 1 x 2^-3", 3, 0),
+    ("all-black.hdr", (0,) * 6, NONE, NONE, 6, 0),
+    ("dim-bright.hdr", (200,) * 6, "9.22337203e18 = 1 x 2^63", "9.22337203e18 = 1 x 2^63", 0, 6),
+    ("dim-edges.hdr", (96, 97, 159, 160, 0, 0), "4.54747350e-13 = 1 x 2^-41", "8388608 = 1 x 2^23", 2, 2),
+    ("dim-exact.hdr", (97, 192, 0, 0, 0, 0), "0.0000000000009094947017729282379150390625 = 1 x 2^-40", "36028797018963968 = 1 x 2^55", 4, 1),
+    ("dim-cut-off.hdr", (96, 193, 0, 0, 0, 0), "4.54747350e-13 = 1 x 2^-41", "7.20575940e16 = 1 x 2^56", 4, 2),
+)
+DIM_STOPS = (  # the charts of some
+    ("saved-dark.hdr", ["  2^-9   | ####### 6"], 0),
+    ("half-black.hdr", ["  2^-9   | ### 2", "  2^-8   | 0", "  2^-7   | 0", "  2^-6   | 0", "  2^-5   | 0", "  2^-4   | 0", "  2^-3   | ## 1"], 3),
+    ("all-black.hdr", ["  light            " + NONE], 6),
+    ("dim-bright.hdr", ["  2^63     ####### 6"], 0),
+)
+
+
+def dim():
+    """Mantissas of 0, as zune-hdr saved dark skies: half a step of light by the document, black by the crate. A chart is by the document always."""
+    for name, exponents, *answers in DIM:
+        keep(name, header(3, 2) + b"".join(bytes([0, 0, 0, e]) for e in exponents))
+        sizes = [name, "  width            3", "  height           2", "  bytes taken      87", "  bytes after      0"]
+        for reading, values in ((DOCUMENT, answers), (CRATE, (NONE, NONE, 6, 0))):
+            lines = ["  %-17s%s" % pair for pair in zip(NAMES[5:9], values)]
+            expect(" ".join(("info", *reading, name)), sizes + lines + ["  if written anew  87", "  at worst         87"], 0, "info", *reading, name)
+    for name, chart, black in DIM_STOPS:
+        for reading in (DOCUMENT, CRATE):
+            expect(" ".join(("stops", *reading, name)), [name, *chart, "  black pixels     %d" % black], 0, "stops", *reading, name)
 
 
 def main():
@@ -772,6 +812,7 @@ def main():
     broken()
     scattered()
     lights()
+    dim()
     headers()
     wide()
     long_rows()

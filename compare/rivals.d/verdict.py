@@ -10,7 +10,7 @@ VALUES = ((lower_edge, ""), (middle, ", middle"))
 
 
 def expected(case, value):
-    """The picture's samples by one of the two document values, and no number where the file holds no pixel."""
+    """The picture's samples by one of the two values, and no number where the file holds no pixel."""
     quads = b"".join(p or bytes(4) for p in case.pixels)
     samples = value(quads, (case.height, case.width)).reshape(-1)
     samples[numpy.repeat([p is None for p in case.pixels], 3)] = numpy.nan

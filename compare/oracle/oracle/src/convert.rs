@@ -194,8 +194,9 @@ fn print_read(name: &str, bytes: &[u8], length: usize) {
 /// Runs the crate on a small input for each difference, and prints what it did.
 pub fn differences() {
     let after = |header: &[u8], row: &[u8]| [header, row].concat();
-    print_read("exponent byte 96, as 128 (2^-33 by the document)", &after(b"#?RGBE\n\n-Y 1 +X 1\n", &[128, 0, 0, 96]), 3);
-    print_read("exponent byte 160 (2^31 by the document)", &after(b"#?RGBE\n\n-Y 1 +X 1\n", &[128, 0, 0, 160]), 3);
+    print_read("exponent byte 96, as 128 (257·2^-41 by the document)", &after(b"#?RGBE\n\n-Y 1 +X 1\n", &[128, 0, 0, 96]), 3);
+    print_read("exponent byte 160 (257·2^23 by the document)", &after(b"#?RGBE\n\n-Y 1 +X 1\n", &[128, 0, 0, 160]), 3);
+    print_read("no mantissa at exponent byte 128 (2^-9 by the document)", &after(b"#?RGBE\n\n-Y 1 +X 1\n", &[0, 0, 0, 128]), 3);
     print_read("old run after one pixel: not taken", &after(b"#?RGBE\n\n-Y 1 +X 2\n", &[10, 10, 10, 129, 1, 1, 1, 1]), 6);
     print_read(
         "old run after two pixels: one copy ends a row of four",
