@@ -28,16 +28,17 @@
  * mantissas and the exponent byte.
  *
  * THE READINGS are two. doorwhisp_read_document reads by the Radiance documents:
- *   - Light is m * 2^(E-136) at every exponent byte E from 1 to 255, which is the lower edge of its step (Radiance's
- *     own library shows the middle), and 0 is black.
+ *   - Light is (2m + 1) * 2^(E-137) at every exponent byte E from 1 to 255, the middle of its step, as Radiance's own
+ *     library shows it. 0 is black; a mantissa of 0 at another exponent byte is half a step of grey.
  *   - A pixel 1, 1, 1, n in a flat row, an old run, repeats the pixel before it n * 256^k times, where k repeats stand
  *     directly ahead of it.
  *   - A row that is none of the document's is refusal 14: one with a mark whose width is not the header's, a repeat
  *     with no pixel before it in its row, or a count or a repeat that passes the row's end.
  *   - A file that is cut in a row is refused by 9 in that row, wherever the cut is.
  * doorwhisp_read reads as zune-hdr 0.5.2 does, for programs that are to show what they showed:
- *   - Light is as the document has it at the exponent bytes 97 to 159, and 0 is black. At 1 to 96 it is shown too
- *     bright, at 160 to 255 too dark, by 2^32 or a power of it.
+ *   - Light is half a step below the document's at the exponent bytes 97 to 159, the lower edge of its step. At 1 to
+ *     96 it is shown too bright, at 160 to 255 too dark, by 2^32 or a power of it. 0 is black, and so is a mantissa of
+ *     0 at every exponent byte.
  *   - Of the cuts in a row, those among the bytes of the file's last count are not refused: where the last row is coded
  *     and the file ends after its last count, the exponent bytes that are missing, 128 at most, are read as 0, and
  *     those pixels are black. Every other cut in a row is refusal 9.
@@ -50,11 +51,12 @@
  *   - the format has no checksum: damage that leaves rows of either kind is read as some other picture.
  *
  * THE WRITING. A negative sample and one that is no number are written as 0, and a pixel whose largest sample is not
- * above 1e-32 as black; 2^127 and more, plus infinity too, is refusal 12. Each sample is rounded down, by less than one
- * step of its pixel. What is written is read back so by the document, where no sample is negative or no number and each
- * pixel's largest is 0 or above 1e-32; as zune-hdr reads, where it is 0 or from 2^-32 to below 2^31: darker pixels come
- * back too bright there and brighter ones too dark. No pixel that is written from samples starts 1, 1, 1. Four-byte
- * pixels are written as they are given: see doorwhisp_write4.
+ * above 1e-32 as black; 2^127 and more, plus infinity too, is refusal 12. Each sample is rounded down to its step. Where
+ * no sample is negative or no number, what is written comes back by the document at most half a step from each sample,
+ * on either side, if each pixel's largest is 0 or above 1e-32; as zune-hdr reads, less than one step below it and never
+ * above, if each largest is 0 or from 2^-32 to below 2^31: darker pixels come back too bright there and brighter ones
+ * too dark. No pixel that is written from samples starts 1, 1, 1. Four-byte pixels are written as they are given: see
+ * doorwhisp_write4.
  */
 #ifndef DOORWHISP_H
 #define DOORWHISP_H

@@ -44,19 +44,22 @@ static void hold_words(void) {
     hold(strcmp(doorwhisp_words(DOORWHISP_NONE), doorwhisp_words(15)) != 0, "words for none", 255);
 }
 
-/* Light is as the document has it; as zune-hdr reads, at exponent bytes 97 to 159 and 0, and too bright or dark else. */
+/*
+ * Light is as the document has it, in the middle of its step; as zune-hdr reads, half a step below that at exponent bytes
+ * 97 to 159, 0 at 0, and too bright or dark else.
+ */
 static void hold_exponents(void) {
     int e;
     for (e = 0; e <= 255; e++) {
         float found[3];
-        double document = e == 0 ? 0.0 : ldexp(128.0, e - 136);
-        doorwhisp_document_pixel_from_bytes(128, 1, 255, (uint8_t)e, found);
-        hold(found[0] == document && found[1] == document / 128, "the document's light", e);
-        hold(found[2] == document / 128 * 255, "the document's light", e);
+        double half = e == 0 ? 0.0 : ldexp(1.0, e - 137);
+        doorwhisp_document_pixel_from_bytes(128, 0, 255, (uint8_t)e, found);
+        hold(found[0] == 257 * half && found[1] == half && found[2] == 511 * half, "the document's light", e);
         doorwhisp_pixel_from_bytes(128, 0, 0, (uint8_t)e, found);
-        hold((found[0] == document) == (e == 0 || (e >= 97 && e <= 159)), "exponent bytes that are the document's", e);
-        hold(e > 96 || found[0] >= document, "too bright below", e);
-        hold(e < 160 || found[0] < document, "too dark above", e);
+        hold((found[0] == 256 * half) == (e == 0 || (e >= 97 && e <= 159)), "half a step below the document's", e);
+        hold(found[1] == 0.0f, "a mantissa of 0", e);
+        hold(e == 0 || e > 96 || found[0] > 257 * half, "too bright below", e);
+        hold(e < 160 || found[0] < 256 * half, "too dark above", e);
     }
 }
 
@@ -83,6 +86,7 @@ static void hold_cuts(void) {
 /* Lines of the header are passed over, both axes are rows of w, and all eight numbers are filled. */
 static void hold_header(void) {
     float plain[24], lines[24];
+    int i;
     static const char text[] = "#?RGBE\n\n-Y 1 +X 2\nabc\x81" "def\x81";
     doorwhisp_answer answer = read_by_document(text, sizeof text - 1, lines);
     hold(answer.width == 2 && answer.height == 1 && answer.taken == 26, "the sizes and the count", 1);
@@ -91,7 +95,7 @@ static void hold_header(void) {
     doorwhisp_read_document_header((const uint8_t *)text, sizeof text - 1, 1, 1, &answer);
     hold(answer.refusal == DOORWHISP_TOO_WIDE && answer.width == 0, "the header alone", 1);
     answer = read_text(text, plain);
-    hold(memcmp(plain, lines, 6 * sizeof *plain) == 0, "both readings alike", 0);
+    for (i = 0; i < 6; i++) hold(plain[i] + ldexp(1.0, -8) == lines[i], "half a step between the readings", i);
     hold(answer.width == 2 && answer.height == 1 && answer.taken == 26, "the sizes and the count", 0);
     hold(answer.colour == 0 && answer.exposure == 0 && answer.orientation == 0, "0 so far", 0);
     read_text("#?RGBE\nEXPOSURE=4\nFORMAT=32-bit_rle_xyze\n\n-Y 1 +X 2\nabc\x81" "def\x81", lines);
@@ -141,7 +145,7 @@ static void hold_broken_rows(void) {
     float samples[24] = {0};
     doorwhisp_answer answer = read_by_document(repeats, sizeof repeats - 1, samples);
     hold(answer.refusal == DOORWHISP_BROKEN_ROW && answer.place == 1 && answer.taken == 0, "a repeat past the end", 0);
-    hold(samples[0] == 9.0f && samples[8] == 9.0f && samples[9] == 0.0f, "the row before it", 0);
+    hold(samples[0] == 9.5f && samples[8] == 9.5f && samples[9] == 0.0f, "the row before it", 0);
     answer = read_by_document(repeats, sizeof repeats - 2, samples);
     hold(answer.refusal == DOORWHISP_BYTES_END && answer.place == 1, "refusal 9 in row 1", 1);
     answer = read_by_document(first, sizeof first - 1, samples);

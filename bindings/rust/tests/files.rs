@@ -28,6 +28,17 @@ const TWO_ROWS_SAMPLES: [f32; 48] = [
     1.0, 2.0, 3.0, 1.0, 2.0, 3.0, 1.0, 2.0, 3.0, 0.0, 0.0, 0.0,
 ];
 
+/// The same by the document: half a step more, but at exponent byte 0.
+#[rustfmt::skip]
+const TWO_ROWS_BY_DOCUMENT: [f32; 48] = [
+    257.0 / 256.0, 1.0 / 256.0, 129.0 / 256.0, 257.0 / 256.0, 3.0 / 256.0, 129.0 / 256.0,
+    257.0 / 256.0, 5.0 / 256.0, 129.0 / 256.0, 257.0 / 256.0, 7.0 / 256.0, 129.0 / 256.0,
+    257.0 / 256.0, 9.0 / 256.0, 65.0 / 256.0, 257.0 / 256.0, 11.0 / 256.0, 65.0 / 256.0,
+    257.0 / 256.0, 13.0 / 256.0, 33.0 / 256.0, 128.5, 7.5, 16.5,
+    1.5, 2.5, 3.5, 1.5, 2.5, 3.5, 1.5, 2.5, 3.5, 1.5, 2.5, 3.5,
+    1.5, 2.5, 3.5, 1.5, 2.5, 3.5, 1.5, 2.5, 3.5, 0.0, 0.0, 0.0,
+];
+
 /// What a file of ours starts with; the height, the width and the pixels follow.
 const LINES: &str = "#?RADIANCE\nSOFTWARE=zune-hdr\nFORMAT=32-bit_rle_rgbe\n\n-Y ";
 
@@ -54,10 +65,10 @@ fn the_reading_is_zune_hdrs_unless_it_is_chosen() {
 }
 
 #[test]
-fn coded_and_flat_rows_are_the_same_by_the_document() {
+fn coded_and_flat_rows_are_read_by_the_document() {
     let mut out = [7.0; 50];
     let mut decoder = by_document(TWO_ROWS);
-    assert_eq!(decoder.decode().unwrap(), TWO_ROWS_SAMPLES);
+    assert_eq!(decoder.decode().unwrap(), TWO_ROWS_BY_DOCUMENT);
     assert_eq!(decoder.dimensions(), Some((8, 2)));
     assert_eq!(decoder.header_size(), Some(18));
     assert_eq!(decoder.decode_into(&mut out), Ok(76));
@@ -73,14 +84,14 @@ fn old_runs_repeat_the_pixel_before_them_by_the_document() {
     };
     let (a, b) = ([7, 0, 0, 136], [8, 0, 0, 136]);
     let run = |n: u8| [1, 1, 1, n];
-    assert_eq!(row(&[a, run(2), b].concat(), 4), [7.0, 7.0, 7.0, 8.0]);
-    assert_eq!(row(&[a, run(0), b, run(1)].concat(), 3), [7.0, 8.0, 8.0]);
+    assert_eq!(row(&[a, run(2), b].concat(), 4), [7.5, 7.5, 7.5, 8.5]);
+    assert_eq!(row(&[a, run(0), b, run(1)].concat(), 3), [7.5, 8.5, 8.5]);
     // 3 and then 1 * 256
-    let long = [vec![7.0; 260], vec![8.0]].concat();
+    let long = [vec![7.5; 260], vec![8.5]].concat();
     assert_eq!(row(&[a, run(3), run(1), b].concat(), 261), long);
     // a first pixel that starts with 2 is repeated too
     let two = [2, 3, 4, 136];
-    assert_eq!(row(&[two, run(7)].concat(), 8), [2.0; 8]);
+    assert_eq!(row(&[two, run(7)].concat(), 8), [2.5; 8]);
 }
 
 #[test]
@@ -89,7 +100,7 @@ fn a_broken_row_is_told_by_the_document() {
         let file = [&TWO_ROWS[..44], row].concat();
         let mut out = [7.0; 48];
         let answer = by_document(&file).decode_into(&mut out);
-        assert_eq!(out[..24], TWO_ROWS_SAMPLES[..24]);
+        assert_eq!(out[..24], TWO_ROWS_BY_DOCUMENT[..24]);
         assert_eq!(out[24..], [7.0; 24]);
         answer.unwrap_err()
     };
@@ -121,16 +132,35 @@ fn every_cut_is_refused_by_the_document() {
 #[test]
 fn light_is_the_documents_at_every_exponent_byte() {
     for e in 0..=255 {
-        let scale = if e == 0 {
+        let half = if e == 0 {
             0.0
         } else {
-            2f64.powi(i32::from(e) - 136)
+            2f64.powi(i32::from(e) - 137)
         };
-        let light = document_pixel_from_bytes([128, 1, 255, e]).map(f64::from);
-        assert_eq!(light, [128.0 * scale, scale, 255.0 * scale]);
-        let shown = pixel_from_bytes([128, 1, 255, e]).map(f64::from);
-        assert_eq!(shown == light, e == 0 || (97..=159).contains(&e));
+        let light = document_pixel_from_bytes([128, 0, 255, e]).map(f64::from);
+        assert_eq!(light, [257.0 * half, half, 511.0 * half]);
+        // zune-hdr's is half a step below from 97 to 159, and 0 too at 0
+        let shown = pixel_from_bytes([128, 0, 255, e]).map(f64::from);
+        let below = light.map(|sample| sample - half);
+        assert_eq!(shown == below, e == 0 || (97..=159).contains(&e));
     }
+}
+
+#[test]
+fn samples_come_back_to_half_a_step_by_the_document() {
+    let written = [1.0, 0.999, 0.0, 1e-30, 3e-31, 0.0, 1e38, 2e37, 5e36, 0.0, 0.0, 0.0];
+    let options = EncoderOptions::new(4, 1);
+    let file = HdrEncoder::new(&written, options).encode_to_vec().unwrap();
+    let back = by_document(&file).decode().unwrap();
+    // half a step is 2^(E-137), and 1 is halfway between two middles
+    for (i, e) in [129, 29, 255].into_iter().enumerate() {
+        let half = 2f64.powi(e - 137);
+        for k in 3 * i..3 * i + 3 {
+            assert!((f64::from(back[k]) - f64::from(written[k])).abs() <= half);
+        }
+    }
+    assert_eq!(back[0], 257.0 / 256.0);
+    assert_eq!(back[9..], [0.0; 3]);
 }
 
 #[test]

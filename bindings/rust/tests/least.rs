@@ -105,7 +105,7 @@ fn the_shortest_rows_are_read_by_the_document() {
             assert_eq!(rows.len(), least(Reading::Document, width, height));
             let file = [header(width, height), rows].concat();
             let samples = decoder(Reading::Document, &file).decode().unwrap();
-            let pixel = [9.0 / 128.0; 3];
+            let pixel = [19.0 / 256.0; 3];
             assert_eq!(samples, pixel.repeat(width * height));
         }
     }
