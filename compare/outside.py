@@ -259,14 +259,15 @@ def read_alike(files, programs, what, folder):
     return rows
 
 
-def every_exponent():
-    """All pairs of mantissa and exponent byte, in coded rows that we write."""
+def every_pair():
+    """Three files of ours, a row to an exponent byte, each with all 65,536 pairs of mantissa and exponent byte: at another place of the pixel in each."""
     files = []
-    for start in range(0, 256, 64):
-        pixels = bytes(b for e in range(start, start + 64) for m in range(256) for b in (m, 255 - m, (m + 85) % 256, e))
-        length, data = ask([f"write4 256 64 70000 {pixels.hex()}"])[0][2:]
-        files.append((256, 64, bytes.fromhex(data)[:int(length)], pixels))
-    assert len({(m, e) for *_, pixels in files for m, e in zip(pixels[::4], pixels[3::4])}) == 65536, "a pair is missing"
+    for turn in range(3):
+        rows = [[((m + i + turn) % 256, e) for m in range(0, 256, 3) for i in range(3)] for e in range(256)]
+        assert len({pair for row in rows for pair in row}) == 65536, "a pair is missing"
+        pixels = b"".join(bytes([row[i][0], row[i + 1][0], row[i + 2][0], row[i][1]]) for row in rows for i in range(0, 258, 3))
+        length, data = ask([f"write4 86 256 100000 {pixels.hex()}"])[0][2:]
+        files.append((86, 256, bytes.fromhex(data)[:int(length)], pixels))
     return files
 
 
@@ -350,8 +351,8 @@ def main():
         progress("files that others write, read by us")
         table += theirs_read_by_us(random, folder, "read", "ours", "lower edge", -31, 31)
         table += theirs_read_by_us(random, folder, "readd", "ours by the document", "middle", -100, 127)
-        progress("every exponent byte, and old runs")
-        table += read_alike(every_exponent(), [OpenCV, OpenImageIO_, Image, Vips], "ours, every exponent byte", folder)
+        progress("every mantissa and exponent byte, and old runs")
+        table += read_alike(every_pair(), [OpenCV, OpenImageIO_, Image, Vips], "ours, all 65,536 pairs", folder)
         table += read_alike(files_with_old_runs(random, 200), [Image, Vips], "files with old runs", folder)
         progress("row coders")
         table += row_coders(random, folder, 1000)

@@ -71,11 +71,11 @@ impl DecoderOptions {
     /// ```
     /// use doorwhisp::{DecoderOptions, HdrDecoder, HdrError, Reading};
     ///
-    /// // a pixel, and an old run that repeats it twice
-    /// let file = b"#?RADIANCE\n\n-Y 1 +X 3\n\x80\x40\x20\x81\x01\x01\x01\x02";
+    /// // a pixel, and an old run that repeats it twice; at exponent byte 136 a step is 1
+    /// let file = b"#?RADIANCE\n\n-Y 1 +X 3\n\x08\x04\x02\x88\x01\x01\x01\x02";
     /// let options = DecoderOptions::default().set_reading(Reading::Document);
     /// let mut decoder = HdrDecoder::new_with_options(file, options);
-    /// assert_eq!(decoder.decode()?, [1.0, 0.5, 0.25].repeat(3));
+    /// assert_eq!(decoder.decode()?, [8.5, 4.5, 2.5].repeat(3));
     /// assert_eq!(HdrDecoder::new(file).decode(), Err(HdrError::OldRun { row: 0 }));
     /// # Ok::<(), doorwhisp::HdrError>(())
     /// ```
