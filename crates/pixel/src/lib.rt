@@ -103,12 +103,12 @@ pub fn shift(reading: Reading, e: u8) -> u32
 }
 
 // How many of them a sample of the mantissa m is.
-pub fn count(reading: Reading, m: u8) -> u16
+pub fn count(reading: Reading, m: u8) -> u32
     ensures { λ r. ⌜ r ≡ countOf reading m ⌝ }
 {
     match reading {
-        Reading::Crate => m as u16,
-        Reading::Document => 2 * m as u16 + 1,
+        Reading::Crate => m as u32,
+        Reading::Document => 2 * m as u32 + 1,
     }
 }
 
