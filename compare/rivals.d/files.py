@@ -146,6 +146,8 @@ def exponents():
     for name, low, high in (("exponent bytes 97 to 159", 97, 160), ("dark: 1 to 96", 1, 97), ("bright: 160 to 255", 160, 256), ("black: 0", 0, 1)):
         row = [bytes([128, 64, 201, e]) for e in range(low, high)]
         yield Case("exponents", name, file(len(row), 1, flat(row)), len(row), 1, row)
+    dark = [bytes([0, 0, 0, 128])] * 8
+    yield Case("exponents", "dark as zune-hdr saved it: 0,0,0,128", file(8, 1, flat(dark)), 8, 1, dark)
 
 
 def headers():

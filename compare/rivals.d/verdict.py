@@ -6,7 +6,7 @@ import crate
 import reading
 from papers import lower_edge, middle
 
-VALUES = ((lower_edge, ""), (middle, ", middle"))
+VALUES = ((middle, ""), (lower_edge, ", lower edge"))
 
 
 def expected(case, value):
