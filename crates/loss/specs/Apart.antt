@@ -1,4 +1,4 @@
--- How far the reader's value is from the document's, at the exponent bytes where they differ.
+-- How far the crate's sample is from the lower edge of the step, at the exponent bytes where they differ.
 use mathlib.Core.Path.{_≡_}
 use Prim.Native.Nat.{ℕ, _*_, _^_, _≤_}
 
