@@ -12,6 +12,7 @@ pub mod Samples
 pub mod Frame
 pub mod Back
 pub mod Calls
+pub mod Twice
 pub mod Lent
 pub mod Step
 pub mod Sharp

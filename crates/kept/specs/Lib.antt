@@ -4,6 +4,7 @@ pub mod Least
 pub mod Numbered
 pub mod Cut
 pub mod Back
+pub mod Twice
 pub mod Alone
 pub mod Lent
 pub mod Skies

@@ -7,4 +7,5 @@ pub mod Dark
 pub mod Last
 pub mod Kept
 pub mod ByDocument
+pub mod Twice
 pub mod Sharp

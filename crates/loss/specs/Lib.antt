@@ -4,3 +4,4 @@ pub mod Apart
 pub mod Written
 pub mod Dark
 pub mod Kept
+pub mod Twice

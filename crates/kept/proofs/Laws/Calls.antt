@@ -6,18 +6,18 @@ use mathlib.Core.Logic.{⊎-elim}
 use mathlib.Core.Path.{_≡_, refl, sym, ap, subst, _∙_}
 use native.Mathlib.Nat.{pos-of-ne-zero, lt-of-lt-of-le, zero-add}
 use native.Mathlib.Omega.{arith}
-use borrow.Author.Tests.{le-ltb, lt-leb, eq-eqb, ne-eqb, eqb-false, ltb-false}
+use borrow.Author.Tests.{le-ltb, eq-eqb, ne-eqb, eqb-false, ltb-false}
 use lib.Dec.{ltb, lit<, lit≤}
 use lib.Ieee.{Float}
 use lib.ListN.{length, take, drop}
 use lib.Seq.{take-at}
 use Rattle.steps.specs.Answer.{Answer}
 use Rattle.steps.proofs.Laws.Answer.{Passed}
-use Rattle.pixel.specs.declared.Pixel.{Pixel}
-use Rattle.pixel.specs.Rgbe.{peak, tooBright}
+use Rattle.pixel.specs.Rgbe.{peak}
 use Rattle.steps.specs.declared.Reading.{Reading}
 use Rattle.steps.specs.declared.Reading.the-variants.{Crate, Document}
 use Rattle.loss.specs.Kept.{rangeOf, nearOf}
+use Rattle.loss.proofs.Laws.Written.{not-bright}
 use Rattle.header.specs.declared.Head.{Head}
 use Rattle.rows_read.specs.Row.{RowRule, rowOf}
 use Rattle.back.proofs.Laws.Row.{RowsBack, reading-row-back}
@@ -38,7 +38,7 @@ neither : (a b : Bool) → (a || b) ≡ false → (a ≡ false) × (b ≡ false)
 neither true b e = absurd (false≢true (sym e))
 neither false b e = (refl, e)
 
-sizes-passed : (w h got each : ℕ) → Passed (frameChecks w h got each) → Sizes w h
+pub sizes-passed : (w h got each : ℕ) → Passed (frameChecks w h got each) → Sizes w h
 sizes-passed w h got each p =
     let both = neither (ltb 65535 w) (ltb 65535 h) (p .1 .0) in
     record { some = pos-of-ne-zero (eqb-false w 0 (p .0)); wide = ltb-false 65535 w (both .0); high = ltb-false 65535 h (both .1) }
@@ -48,7 +48,7 @@ sizes-passed w h got each p =
 module _ (rowRule : RowRule) (rule : SampleRule) where
   module _ (file lent left : List ℕ) (n : ℕ) (wrote : Stored file lent n left) (rest : List ℕ) (widest highest : ℕ) (out out′ : List Float) (store store′ : List ℕ) (answer : ReadAnswer)
       (read : ReadPromiseBy rowRule rule (take n left ++ rest) widest highest out store answer out′ store′) where
-    by-calls : (P : ℕ → Answer Head × List Float × List ℕ → Type 0) → P (length file) (readBy rowRule rule (file ++ rest) widest highest out store) → P n (paperOf answer, out′, store′)
+    pub by-calls : (P : ℕ → Answer Head × List Float × List ℕ → Type 0) → P (length file) (readBy rowRule rule (file ++ rest) widest highest out store) → P n (paperOf answer, out′, store′)
     by-calls P p =
         let bytes : take n left ≡ file = ap (take n) (wrote .bytes) ∙ take-at file (drop n lent) n (sym (wrote .size)) in
         subst (P n) (sym (read ∙ ap (λ (l : List ℕ). readBy rowRule rule (l ++ rest) widest highest out store) bytes))
@@ -81,21 +81,21 @@ range-below : (reading : Reading) (v : ℕ) → rangeOf reading v → v < 2 ^ 27
 range-below Crate v = ⊎-elim (λ z. subst (λ (v : ℕ). v < 2 ^ 276) (sym z) (lit< tt)) (λ l. lt-of-lt-of-le (l .1) (lit≤ {m = 2 ^ 180} {n = 2 ^ 276} tt))
 range-below Document v = ⊎-elim (λ z. subst (λ (v : ℕ). v < 2 ^ 276) (sym z) (lit< tt)) (λ l. l .1)
 
-not-bright : (reading : Reading) (p : Pixel) → rangeOf reading (peak p) → tooBright p ≡ false
-unfolding tooBright
-not-bright reading p range = lt-leb (2 ^ 276) (peak p) (range-below reading (peak p) range)
-
 in-range-passes : (reading : Reading) (samples : List Float) (n : ℕ) → AllInRange (rangeOf reading) samples n → firstBright samples 0 n ≡ n
-in-range-passes reading samples n all = each-none samples 0 n (λ k l. rw (zero-add (3 * k)) (not-bright reading (pixel samples k) (all k l .largest)))
+in-range-passes reading samples n all =
+    each-none samples 0 n (λ k l. rw (zero-add (3 * k)) (not-bright (pixel samples k) (range-below reading (peak (pixel samples k)) (all k l .largest))))
 
-pub in-range-written : (reading : Reading) (w h : ℕ) (samples : List Float) → Sizes w h → length samples ≡ 3 * (w * h) → AllInRange (rangeOf reading) samples (w * h) → IsWritten w h samples
+pub passing-written : (w h : ℕ) (samples : List Float) → Sizes w h → length samples ≡ 3 * (w * h) → firstBright samples 0 (w * h) ≡ w * h → IsWritten w h samples
 unfolding writeOf brightChecked stored
-in-range-written reading w h samples sizes count all out room =
+passing-written w h samples sizes count passes out room =
     simp (
       ne-eqb w 0 (λ e. omega arith),
       le-ltb 65535 w (sizes .wide),
       le-ltb 65535 h (sizes .high),
       eq-eqb (length samples) (3 * (w * h)) count,
-      le-ltb (firstBright samples 0 (w * h)) (w * h) (omega (arith, in-range-passes reading samples (w * h) all)),
+      le-ltb (firstBright samples 0 (w * h)) (w * h) (omega arith),
       le-ltb (length out) (length (fileOf samples w h)) room,
     )
+
+pub in-range-written : (reading : Reading) (w h : ℕ) (samples : List Float) → Sizes w h → length samples ≡ 3 * (w * h) → AllInRange (rangeOf reading) samples (w * h) → IsWritten w h samples
+in-range-written reading w h samples sizes count all = passing-written w h samples sizes count (in-range-passes reading samples (w * h) all)

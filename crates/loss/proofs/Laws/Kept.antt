@@ -6,7 +6,7 @@ use Prim.Native.Nat.{ℕ, _+_, _-_, _*_, _%_, _^_, _≤_, _<_}
 use native.Mathlib.Nat.{mod-lt, zero-mul, not-suc-le-zero, lt-of-le-of-lt, lt-of-lt-of-le}
 use native.Mathlib.Omega.{arith}
 use lib.Dec.{T, eqb→eq, lit<, lit≤}
-use lib.Pow.{pow-pos, pow-add, split}
+use lib.Pow.{pow-pos, split}
 use lib.Ieee.{Float, nan, inf, fin, binary32, up, down, fits, size}
 use lib.Ieee.Digits.{Equals, size-lt, size-le, size-reaches}
 use Rattle.steps.specs.declared.Reading.{Reading}
@@ -18,7 +18,7 @@ use Rattle.pixel.specs.Rgbe.{unitsOf, pixelOf, peak, dark, byteOf, coded, bytes
 use Rattle.loss.specs.Kept.{rangeOf, InRange, Lies, step, halfStep, nearOf, Kept, KeptAll, zeros}
 use Rattle.pixel.proofs.Laws.Units.{exact-plain, mag-is}
 use Rattle.pixel.proofs.Laws.Samples.{shape, own-mag}
-use Rattle.loss.proofs.Laws.Scales.{doubled, halves, crate-worth, doc-worth}
+use Rattle.loss.proofs.Laws.Scales.{doubled, halves, step-halves, crate-worth, doc-worth}
 use Rattle.loss.proofs.Laws.Values.{sample-exact, black-zero}
 use Rattle.pixel.proofs.Laws.Digits.{size-gt, size-is, size-low}
 use Rattle.pixel.proofs.Laws.Bytes.{r-peak, g-peak, b-peak, coded-bytes, black-bytes, by-step, byte-lt}
@@ -49,7 +49,7 @@ beside b s t r n y e parts short is =
     (omega arith, omega arith)
 
 -- the digits of the largest at which a reading gives it back
-abbrev Gives : Reading → ℕ → Type 0
+abbrev pub Gives : Reading → ℕ → Type 0
 Gives Crate N = (118 ≤ N) × (N ≤ 180)
 Gives Document N = Unit {0}
 
@@ -60,12 +60,9 @@ module _ (n N : ℕ) (l : 22 ≤ N) where
   short : n % step N < step N
   short = mod-lt n (pow-pos (N - 8))
 
-  halved : step N ≡ 2 * halfStep N
-  halved = let one : N - 8 ≡ 1 + (N - 9) = omega arith in ap (λ (k : ℕ). 2 ^ k) one ∙ pow-add 2 1 (N - 9)
-
   near : (reading : Reading) → Gives reading N → nearOf reading N n (unitsOf reading (byteOf N n) (N - 21))
   near Crate g = below (byteOf N n) (step N) (n % step N) n _ parts short (crate-worth (byteOf N n) N (g .0) (g .1))
-  near Document g = beside (byteOf N n) (step N) (halfStep N) (n % step N) n _ halved parts short (doc-worth (byteOf N n) N l)
+  near Document g = beside (byteOf N n) (step N) (halfStep N) (n % step N) n _ (step-halves N (omega arith)) parts short (doc-worth (byteOf N n) N l)
 
 kept : (reading : Reading) (x : Float) (N : ℕ) → 22 ≤ N → N ≤ 276 → Gives reading N → mag x < 2 ^ N → Kept (nearOf reading N) x (ofUnits (unitsOf reading (byteOf N (mag x)) (N - 21)))
 kept reading x N l h gives u =

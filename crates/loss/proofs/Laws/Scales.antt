@@ -19,6 +19,11 @@ doubled m t = sym (mul-assoc m 2 t) ∙ ap (λ (z : ℕ). z * t) (mul-comm m 2)
 pub two-halves : (e : ℕ) → 0 < e → 2 * half e ≡ 2 ^ (1 + docShift e)
 two-halves e h = ap (λ (z : ℕ). 2 * z) (scale-at Document e h) ∙ sym (pow-add 2 1 (docShift e))
 
+pub step-halves : (N : ℕ) → 9 ≤ N → step N ≡ 2 * halfStep N
+step-halves N h =
+    let one : N - 8 ≡ 1 + (N - 9) = omega arith in
+    ap (λ (k : ℕ). 2 ^ k) one ∙ pow-add 2 1 (N - 9)
+
 -- ---- a step of the crate is two half steps of the document from 97 to 159
 shifts-meet : (e : ℕ) → 97 ≤ e → e ≤ 159 → crateShift e ≡ 1 + docShift e
 shifts-meet e h k = ⊎-elim (λ l. omega (arith, crate-high e l)) (λ l. omega (arith, crate-low e l)) (lt-or-ge 128 e)

@@ -1,5 +1,5 @@
 -- No bound of the claims is loose: pixels at the edge of each, computed. The last byte 22 is that of `first-is-light` in `Dark`.
-use mathlib.Core.Path.{_≡_, refl}
+use mathlib.Core.Path.{_≡_, refl, sym, _∙_}
 use mathlib.Core.Bool.{false}
 use Prim.Native.Nat.{ℕ, _+_, _-_, _^_}
 use lib.IntN.{pos, negsuc}
@@ -12,6 +12,7 @@ use Rattle.pixel.specs.Units.{ofUnits, mag}
 use Rattle.pixel.specs.Rgbe.{crateShift, scaleOf, unitsOf, crateUnits, docUnits, pixelOf, peak, bytesOf}
 use Rattle.loss.specs.Dark.{lastBlack, grey}
 use Rattle.loss.specs.Kept.{zeros}
+use Rattle.loss.specs.Twice.{comesBack, faint, faintBack, Falls}
 use Rattle.loss.proofs.Laws.Kept.{black-back}
 
 abbrev zero : Float
@@ -73,3 +74,30 @@ most-below = refl
 pub last-black-back : pixelOf docUnits (bytesOf (grey lastBlack)) ≡ zeros
 unfolding ofBits mag peak
 last-black-back = black-back Document (grey lastBlack) (lit≤ tt)
+
+-- ---- saved twice
+
+-- by the crate reading the f32 next below 2^-32, and 2^31, are written again with another last byte
+pub next-dark-again : (bytesOf (red (fin false (2 ^ 24 - 1) (negsuc 55))) ≡ bytes 255 96) × (bytesOf (back (red (fin false (2 ^ 24 - 1) (negsuc 55)))) ≡ bytes 255 128)
+unfolding round size ofUnits mag crateShift scaleOf unitsOf peak bytesOf
+next-dark-again = (refl, refl)
+
+pub too-bright-again : (bytesOf (red (fin false 1 (pos 31))) ≡ bytes 128 160) × (bytesOf (back (red (fin false 1 (pos 31)))) ≡ bytes 128 128)
+unfolding round size ofUnits mag crateShift scaleOf unitsOf peak bytesOf
+too-bright-again = (refl, refl)
+
+-- by the document reading the f32 next above 1e-32 falls to black
+abbrev faintest : Pixel
+faintest = record { r = fin false 415 (negsuc 114); g = fin false 1 (negsuc 114); b = fin false 1 (negsuc 114) }
+
+faint-shows : comesBack Document faint ≡ faintest
+unfolding round ofBits size ofUnits mag scaleOf unitsOf peak bytesOf
+faint-shows = refl
+
+faint-patterns : faintBack ≡ faintest
+unfolding ofBits
+faint-patterns = refl
+
+pub falls-to-black : Falls
+unfolding round ofBits size ofUnits mag peak bytesOf
+falls-to-black = record { written = refl; back = faint-shows ∙ sym faint-patterns; again = refl }

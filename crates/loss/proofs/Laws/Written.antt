@@ -35,6 +35,10 @@ bright-is-over p =
     (λ l. lt-leb (2 ^ 276) (peak p) (lt-of-le-of-lt l (lit< tt)) ∙ sym (le-ltb 255 (bytesOf p .e) (omega (arith, ap (λ (q : Rgbe). q .e) (black-bytes p l)))))
     (lt-or-ge dark (peak p))
 
+pub not-bright : (p : Pixel) → peak p < 2 ^ 276 → tooBright p ≡ false
+unfolding tooBright
+not-bright p h = lt-leb (2 ^ 276) (peak p) h
+
 -- ---- No byte is over 255
 
 coded-byte : (p : Pixel) (n : ℕ) → n ≤ peak p → byteOf (size (peak p)) n ≤ 255
