@@ -13,7 +13,7 @@ use lib.ListN.{length, take, drop}
 use lib.Seq.{take-at}
 use Rattle.steps.specs.Answer.{Answer}
 use Rattle.steps.proofs.Laws.Answer.{Passed}
-use Rattle.pixel.specs.Rgbe.{peak}
+use Rattle.pixel.specs.Rgbe.{peak, tooBright}
 use Rattle.steps.specs.declared.Reading.{Reading}
 use Rattle.steps.specs.declared.Reading.the-variants.{Crate, Document}
 use Rattle.loss.specs.Kept.{rangeOf, nearOf}
@@ -75,27 +75,24 @@ calls-back reading = calls-back-by (rowOf reading) (pixelBy reading) (reading-ro
 pub calls-back4 : (reading : Reading) (w h : ℕ) (px : List ℕ) → NoOnes px w (w * h) → CallsComeBack4 (rowOf reading) (pixelBy reading) w h px
 calls-back4 reading = calls-back4-by (rowOf reading) (pixelBy reading) (reading-row-back reading)
 
--- ---- A frame in range is written: no pixel of it is too bright
+-- ---- A frame of which no pixel is too bright is written; so is one in range
 
-range-below : (reading : Reading) (v : ℕ) → rangeOf reading v → v < 2 ^ 276
-range-below Crate v = ⊎-elim (λ z. subst (λ (v : ℕ). v < 2 ^ 276) (sym z) (lit< tt)) (λ l. lt-of-lt-of-le (l .1) (lit≤ {m = 2 ^ 180} {n = 2 ^ 276} tt))
-range-below Document v = ⊎-elim (λ z. subst (λ (v : ℕ). v < 2 ^ 276) (sym z) (lit< tt)) (λ l. l .1)
-
-in-range-passes : (reading : Reading) (samples : List Float) (n : ℕ) → AllInRange (rangeOf reading) samples n → firstBright samples 0 n ≡ n
-in-range-passes reading samples n all =
-    each-none samples 0 n (λ k l. rw (zero-add (3 * k)) (not-bright (pixel samples k) (range-below reading (peak (pixel samples k)) (all k l .largest))))
-
-pub passing-written : (w h : ℕ) (samples : List Float) → Sizes w h → length samples ≡ 3 * (w * h) → firstBright samples 0 (w * h) ≡ w * h → IsWritten w h samples
+pub passing-written : (w h : ℕ) (samples : List Float) → Sizes w h → length samples ≡ 3 * (w * h) → ((k : ℕ) → k < w * h → tooBright (pixel samples k) ≡ false) → IsWritten w h samples
 unfolding writeOf brightChecked stored
-passing-written w h samples sizes count passes out room =
+passing-written w h samples sizes count each out room =
     simp (
       ne-eqb w 0 (λ e. omega arith),
       le-ltb 65535 w (sizes .wide),
       le-ltb 65535 h (sizes .high),
       eq-eqb (length samples) (3 * (w * h)) count,
-      le-ltb (firstBright samples 0 (w * h)) (w * h) (omega arith),
+      le-ltb (firstBright samples 0 (w * h)) (w * h) (omega (arith, each-none samples 0 (w * h) (λ k l. rw (zero-add (3 * k)) (each k l)))),
       le-ltb (length out) (length (fileOf samples w h)) room,
     )
 
+range-below : (reading : Reading) (v : ℕ) → rangeOf reading v → v < 2 ^ 276
+range-below Crate v = ⊎-elim (λ z. subst (λ (v : ℕ). v < 2 ^ 276) (sym z) (lit< tt)) (λ l. lt-of-lt-of-le (l .1) (lit≤ {m = 2 ^ 180} {n = 2 ^ 276} tt))
+range-below Document v = ⊎-elim (λ z. subst (λ (v : ℕ). v < 2 ^ 276) (sym z) (lit< tt)) (λ l. l .1)
+
 pub in-range-written : (reading : Reading) (w h : ℕ) (samples : List Float) → Sizes w h → length samples ≡ 3 * (w * h) → AllInRange (rangeOf reading) samples (w * h) → IsWritten w h samples
-in-range-written reading w h samples sizes count all = passing-written w h samples sizes count (in-range-passes reading samples (w * h) all)
+in-range-written reading w h samples sizes count all =
+    passing-written w h samples sizes count (λ k l. not-bright (pixel samples k) (range-below reading (peak (pixel samples k)) (all k l .largest)))

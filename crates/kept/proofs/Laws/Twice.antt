@@ -1,12 +1,10 @@
 -- Saving twice, for the whole frame: over the definitions, and over what the calls promise.
-use Prim.Native.Nat.{ℕ, zero, suc, _+_, _*_, _^_, _<_, _≤_}
+use Prim.Native.Nat.{ℕ, zero, suc, _+_, _*_, _<_, _≤_}
 use mathlib.Core.Bool.{false}
 use mathlib.Core.List.{List, _++_}
-use mathlib.Core.Logic.{⊎-elim}
 use mathlib.Core.Path.{_≡_, refl, sym, ap, subst, _∙_}
-use native.Mathlib.Nat.{zero-add, lt-of-le-of-lt, lt-of-lt-of-le}
 use native.Mathlib.Omega.{arith}
-use lib.Dec.{ltb, lit<, lit≤}
+use lib.Dec.{ltb}
 use lib.Ieee.{Float, nan}
 use lib.ListN.{length, getD, take, drop}
 use lib.Seq.{getD-take, length-take-le, take-at, drop-at}
@@ -14,18 +12,15 @@ use Rattle.steps.specs.Answer.{done}
 use Rattle.steps.specs.Place.{spread}
 use Rattle.steps.proofs.Laws.Place.{spread-front}
 use Rattle.steps.specs.declared.Reading.{Reading}
-use Rattle.steps.specs.declared.Reading.the-variants.{Crate, Document}
-use Rattle.pixel.specs.declared.Pixel.{Pixel}
 use Rattle.pixel.specs.declared.Rgbe.{Rgbe}
-use Rattle.pixel.specs.Rgbe.{peak, dark, tooBright, bytesOf}
-use Rattle.loss.specs.Twice.{twiceRange, comesBack}
+use Rattle.pixel.specs.Rgbe.{tooBright, bytesOf}
+use Rattle.loss.specs.Twice.{comesBack}
 use Rattle.loss.proofs.Laws.Written.{bright-is-over, not-bright}
-use Rattle.loss.proofs.Laws.Twice.{written-twice}
-use Rattle.reader.specs.Read.{readOf, paperOf, pixelBy, ReadPromise}
+use Rattle.loss.proofs.Laws.Twice.{twice-below, written-twice}
+use Rattle.reader.specs.Read.{readOf, pixelBy}
 use Rattle.rows_read.specs.Row.{rowOf}
-use Rattle.frames_written.specs.Samples.{pixelAt, four, packed, firstBright}
+use Rattle.frames_written.specs.Samples.{pixelAt, four, packed}
 use Rattle.frames_written.specs.Frame.{frameOf, fileOf}
-use Rattle.frames_written.proofs.Laws.Samples.{each-none}
 use Rattle.writer.specs.Write.{WritePromise, writeOf}
 use Rattle.writer.specs.declared.WriteAnswer.{WriteAnswer}
 use Rattle.writer.specs.declared.WriteAnswer.the-variants.{Done}
@@ -45,11 +40,6 @@ packed-same xs ys i (suc n) same =
     let first = rw here at (same 0 (omega arith)) in
     let others = packed-same xs ys (i + 3) n (λ k l. let next : i + 3 * suc k ≡ i + 3 + 3 * k = omega arith in rw next at (same (suc k) (omega arith))) in
     λ t. four (first t) (others t)
-
--- ---- A pixel in range is not too bright
-twice-below : (reading : Reading) (v : ℕ) → twiceRange reading v → v < 2 ^ 276
-twice-below Crate v = ⊎-elim (λ h. lt-of-le-of-lt h (lit< {m = dark} {n = 2 ^ 276} tt)) (λ h. lt-of-lt-of-le (h .1) (lit≤ {m = 2 ^ 180} {n = 2 ^ 276} tt))
-twice-below Document v = ⊎-elim (λ h. lt-of-le-of-lt h (lit< {m = dark} {n = 2 ^ 276} tt)) (λ h. h .1)
 
 -- ---- What is read of a frame's file is written as the frame is
 
@@ -82,11 +72,10 @@ module _ (reading : Reading) (w h : ℕ) (samples : List Float) (sizes : Sizes w
         let from : (k : ℕ) → 0 + 3 * k ≡ 3 * k = λ k. omega arith in
         ap (λ (px : List ℕ). frameOf px w h) (packed-same frame samples 0 (w * h) (λ k l. rw (from k) (same-bytes k l)))
 
-    -- check 12 passes of it: it is a test of the bytes
-    same-passes : firstBright frame 0 (w * h) ≡ w * h
-    same-passes =
-        each-none frame 0 (w * h) (λ k l. rw (zero-add (3 * k))
-        (bright-is-over (pixel frame k) ∙ ap (λ (q : Rgbe). ltb 255 (q .e)) (same-bytes k l) ∙ sym (bright-is-over (pixel samples k)) ∙ not-bright (pixel samples k) (twice-below reading _ (all k l))))
+    -- check 12 passes of it too, since it is a test of the last byte
+    same-passes : (k : ℕ) → k < w * h → tooBright (pixel frame k) ≡ false
+    same-passes k l =
+        bright-is-over (pixel frame k) ∙ ap (λ (q : Rgbe). ltb 255 (q .e)) (same-bytes k l) ∙ sym (bright-is-over (pixel samples k)) ∙ not-bright (pixel samples k) (twice-below reading _ (all k l))
 
     -- so a call of the writer with room for the file leaves that file
     same-call : (first tail lent left : List ℕ) (again : WriteAnswer) → first ≡ fileOf samples w h ++ tail → WritePromise w h frame lent again left → length (fileOf samples w h) ≤ length lent
@@ -120,4 +109,4 @@ calls-save-twice reading w h samples all lent left n wrote rest widest highest o
 -- a frame in range is written
 pub twice-written : (reading : Reading) (w h : ℕ) (samples : List Float) → Sizes w h → length samples ≡ 3 * (w * h) → AllTwice reading samples (w * h) → IsWritten w h samples
 twice-written reading w h samples sizes count all =
-    passing-written w h samples sizes count (each-none samples 0 (w * h) (λ k l. rw (zero-add (3 * k)) (not-bright (pixel samples k) (twice-below reading _ (all k l)))))
+    passing-written w h samples sizes count (λ k l. not-bright (pixel samples k) (twice-below reading _ (all k l)))

@@ -1,13 +1,13 @@
 -- RULES 8.5 at one pixel: four bytes as they are written, that a reading gives back in their own steps, are written again as the same bytes.
 use mathlib.Core.Path.{_≡_, refl, sym, ap, _∙_, subst}
 use mathlib.Core.Logic.{_⊎_, inl, inr, ⊎-elim}
-use Prim.Native.Nat.{ℕ, _+_, _-_, _*_, _/_, _^_, _≤_, _<_, zero-le}
+use Prim.Native.Nat.{ℕ, _+_, _-_, _*_, _/_, _^_, _≤_, _<_}
 use native.Mathlib.Nat.{add-mul, one-mul, zero-mul, zero-div, le-trans, lt-of-le-of-lt, lt-of-lt-of-le, mul-le-mul-right, div-eq-of-lt-le}
 use native.Mathlib.Omega.{arith}
 use lib.Dec.{lit<, lit≤}
 use lib.Pow.{pow-pos, pow-mono}
 use lib.Ieee.{Float, size}
-use lib.Ieee.Digits.{size-lt, size-le}
+use lib.Ieee.Digits.{size-le}
 use Rattle.steps.proofs.Laws.Order.{lt-or-ge}
 use Rattle.steps.specs.declared.Reading.{Reading}
 use Rattle.steps.specs.declared.Reading.the-variants.{Crate, Document}
@@ -18,12 +18,12 @@ use Rattle.pixel.specs.Rgbe.{unitsOf, pixelOf, peak, dark, black, byteOf, coded
 use Rattle.pixel.proofs.Laws.Numbers.{pow-pow}
 use Rattle.pixel.proofs.Laws.Units.{exact-plain, mag-is, zero-exact}
 use Rattle.pixel.proofs.Laws.Digits.{size-gt, size-is}
-use Rattle.pixel.proofs.Laws.Bytes.{r-peak, g-peak, b-peak, peak-is, coded-bytes, black-bytes, by-step, byte-lt}
+use Rattle.pixel.proofs.Laws.Bytes.{r-peak, g-peak, b-peak, peak-is, coded-bytes, black-bytes, by-step}
 use Rattle.loss.specs.Kept.{step, halfStep, zeros}
-use Rattle.loss.specs.Written.{Fits, Written}
+use Rattle.loss.specs.Written.{Fits}
 use Rattle.loss.specs.Twice.{twiceRange, comesBack, fromNone, Shows, Twice}
 use Rattle.loss.proofs.Laws.Scales.{doubled, halves, step-halves, crate-worth, doc-worth}
-use Rattle.loss.proofs.Laws.Values.{sample-exact, black-zero}
+use Rattle.loss.proofs.Laws.Values.{sample-exact}
 use Rattle.loss.proofs.Laws.Written.{last-byte, not-bright, written-fits, written-bytes}
 use Rattle.loss.proofs.Laws.Kept.{Gives, black-back}
 
@@ -121,6 +121,10 @@ reach Crate v =
     }))
 reach Document v = ⊎-elim inl (λ h. inr (record { low = h .0; high = h .1; gives = tt }))
 
+-- such a pixel is not too bright
+pub twice-below : (reading : Reading) (v : ℕ) → twiceRange reading v → v < 2 ^ 276
+twice-below reading v range = ⊎-elim (λ h. lt-of-le-of-lt h (lit< {m = dark} {n = 2 ^ 276} tt)) (λ r. r .high) (reach reading v range)
+
 module _ (reading : Reading) (p : Pixel) where
   black-again : peak p ≤ dark → bytesOf (comesBack reading p) ≡ bytesOf p
   unfolding peak
@@ -159,10 +163,9 @@ module _ (reading : Reading) (p : Pixel) where
   -- RULES 8.5 at a pixel
   pub written-twice : twiceRange reading (peak p) → Twice reading p
   written-twice range =
-      let lies = reach reading (peak p) range in
-      let fits = written-fits p (not-bright p (⊎-elim (λ h. lt-of-le-of-lt h (lit< {m = dark} {n = 2 ^ 276} tt)) (λ r. r .high) lies)) in
+      let fits = written-fits p (not-bright p (twice-below reading (peak p) range)) in
       record {
-        bytes = ⊎-elim black-again light-again lies;
+        bytes = ⊎-elim black-again light-again (reach reading (peak p) range);
         r = shows fits (p .r) (bytesOf p .r) (fits .r) (no-byte (p .r) (λ q. q .r) refl (λ N. refl));
         g = shows fits (p .g) (bytesOf p .g) (fits .g) (no-byte (p .g) (λ q. q .g) refl (λ N. refl));
         b = shows fits (p .b) (bytesOf p .b) (fits .b) (no-byte (p .b) (λ q. q .b) refl (λ N. refl));
