@@ -201,6 +201,43 @@ def bounds_of_bytes():
         yield f"write4 1 1 67 {four}", f"0 0 67 {file1}{four}"
 
 
+def saved_twice():
+    """Frames that are written, read and written again: the same bytes in a reading's range, other ones just outside it."""
+    def saved(w, h, call, samples, fours, back, again):
+        head, n = HEADER.format(w=w, h=h).encode(), 4 * w * h
+        size = len(head) + n
+        yield f"write {w} {h} {size} {samples}", f"0 0 {size} {hexed(head)}{fours}"
+        yield f"{call} {w} {h} {3 * w * h} {4 * w} {hexed(head)}{fours}", f"0 0 {w} {h} {size} {back} {fours[-8 * w :]}"
+        yield f"write {w} {h} {size} {back}", f"0 0 {size} {hexed(head)}{again}"
+
+    def kept(w, h, pairs, calls=("read", "readd")):
+        """Pixels in range: what comes back is the lower edge of each step, or its middle, and the bytes are the same."""
+        samples, fours = ("".join(part) for part in zip(*pairs))
+        pixels = [list(bytes.fromhex(four)) for _, four in pairs]
+        for call in calls:
+            shows = lower_edges if call == "read" else middles
+            back = "".join(shows([pixel]) if pixel[3] else "00000000" * 3 for pixel in pixels)
+            yield from saved(w, h, call, samples, fours, back, fours)
+
+    # 1, 0.5, 0.25; 0.003; -1, no number, 2^-32; the largest below 2^31 beside minus infinity; what is written black: the last dark f32, negative ones, no numbers
+    both = [
+        ("3f8000003f0000003e800000", "80402081"), ("3b449ba63b449ba63b449ba6", "c4c4c478"), ("bf8000007fc000002f800000", "00008061"), ("ff8000004effffff80000000", "00ff009f"),
+        ("0a4fb11f0a4fb11f0a4fb11f", "00000000"), ("bf800000c0000000ff800000", "00000000"), ("7fc000007f800001ffc00000", "00000000"),
+    ]
+    # by the document reading alone: 2^-106; just below 2^-32; 2^31; the largest below 2^127; and though it is below 2^-106, the least f32 with the byte 208
+    document = [("0a8000000000000000000000", "80000017"), ("7fc000002f7fffffbf800000", "00ff0060"), ("4f0000004f0000004f000000", "808080a0"), ("7effffff0000000000000000", "ff0000ff"), ("0a5000000000000000000000", "d0000016")]
+    for pair in both:
+        yield from kept(1, 1, [pair])
+    for pair in document:
+        yield from kept(1, 1, [pair], ("readd",))
+    yield from kept(7, 1, both)
+    yield from kept(4, 3, both + document, ("readd",))
+    # the f32 next above 1e-32 falls to black by the document reading; by the crate reading the one next below 2^-32, and 2^31, get the exponent byte 128
+    yield from saved(1, 1, "readd", "0a4fb1200000000000000000", "cf000016", "0a4f80000600000006000000", "00000000")
+    yield from saved(1, 1, "read", "2f7fffff0000000000000000", "ff000060", "3f7f00000000000000000000", "ff000080")
+    yield from saved(1, 1, "read", "4f0000000000000000000000", "800000a0", "3f0000000000000000000000", "80000080")
+
+
 def worst_lengths():
     """Worst lengths: 61 bytes and the digits, then 4w a row, or at widths 8 to 32,767 a mark and four channels of literals."""
     def answer(w, h):
@@ -406,8 +443,8 @@ def main():
         return run.stdout.decode().split("\n")[:-1]
 
     pairs = sky_lines("compare/skies")
-    for part in (reader_refusals, old_runs, writer_refusals, pixels, bounds_of_bytes, worst_lengths, no_form):
-        pairs += part()
+    for part in (reader_refusals, old_runs, writer_refusals, pixels, bounds_of_bytes, saved_twice, worst_lengths, no_form):
+        pairs += dict.fromkeys(part())
     by_rules = len(pairs)
     pairs += [pair for pair in dict(by_hand()).items() if pair not in pairs]
     for line, answer in pairs:

@@ -397,6 +397,7 @@ def cut():
     first = pixels(rng, width, "noisy")
     file = start + write_row(first, width) + b"\2\3\4\5" + pixels(rng, 8, "noisy") + b"\2\2\0\11" + b"\211\1\0\211\2\4abcd\205e\211\200"
     names = []
+    keep("uncut.hdr", file)
     for end in range(len(start), len(file) + 1):
         names.append("cut%d.hdr" % end)
         keep(names[-1], file[:end])
@@ -732,6 +733,9 @@ def broken():
     check("but as the crate shows it", load("mark2.hdr") == header(8, 1) + b"\2\2\0\10" + b"\210\1" * 4)
 
 
+SCATTERED = []  # the names, widths and heights of these files
+
+
 def scattered():
     """Small files of bytes that often mean something, by both readings."""
     rng, names = random.Random(23), []
@@ -744,6 +748,7 @@ def scattered():
         )
         names.append(("scattered%d" % k, width, height))
         keep(names[-1][0], header(width, height) + rows)
+    SCATTERED.extend(names)
     for reading in (DOCUMENT, CRATE):
         want = [line for name, w, h in names for line in answer(name, load(name), w, h, len(header(w, h)), reading)]
         expect(" ".join(("scattered bytes", *reading)), want, 1, "info", *reading, *(name for name, _, _ in names))
@@ -805,6 +810,45 @@ def dim():
             expect(" ".join(("stops", *reading, name)), [name, *chart, "  black pixels     %d" % black], 0, "stops", *reading, name)
 
 
+def anew(reading, file, width, height, start):
+    """The copy of a file: its pixels by RULES 4, written by RULES 5; none where a row is at fault."""
+    store, at, copy = bytearray(4 * width), start, header(width, height)
+    try:
+        for _ in range(height):
+            at = read_row(reading, file, at, store, width)
+            copy += write_row(store, width)
+    except Fault:
+        return None
+    return copy
+
+
+def twice():
+    """A copy of a copy is the copy, by either reading, whatever the first file is like: other axes and lines, other codes for the same pixels, old runs, any light."""
+    files = {name: (w, h, len(header(w, h))) for name, w, h in (("small.hdr", 9, 2), ("wide.hdr", 40000, 3), ("saved-dark.hdr", 3, 2), ("dim-edges.hdr", 3, 2), ("nothing", 8, 1), ("apart", 600, 1))}
+    files["none.hdr"] = (3, 0, 22)
+    files["uncut.hdr"] = (9, 3, load("uncut.hdr").index(b"-Y 3\n") + 5)
+    rng = random.Random(29)
+    every = [bytes([m, rng.randrange(256), rng.randrange(256), e]) for e in range(256) for m in (0, 1, 127, 128, 255)]
+    keep("lights.hdr", header(1280, 1) + b"".join(every))
+    files["lights.hdr"] = (1280, 1, len(header(1280, 1)))
+    dusk = keep("dusk.hdr", open(os.path.join(TOP, "skies/dusk.hdr"), "rb").read())
+    files["dusk.hdr"] = (64, 32, dusk.index(b"\n", dusk.index(b"\n\n") + 2) + 1)
+    files.update({name: (w, h, len(header(w, h))) for name, w, h in SCATTERED[:60]})
+    copied = 0
+    for name, (width, height, start) in files.items():
+        for reading in (DOCUMENT, CRATE):
+            want = anew(reading, load(name), width, height, start)
+            if want is None:
+                continue
+            copied += 1
+            run("copy", *reading, name, "first.hdr", "--force")
+            check(" ".join(("the copy of", name, *reading)), load("first.hdr") == want)
+            for again in (DOCUMENT, CRATE):
+                run("copy", *again, "first.hdr", "second.hdr", "--force")
+                check(" ".join(("the copy of the copy of", name, *reading, "then", *again)), load("second.hdr") == want)
+    check("many copies of copies", copied > 30)
+
+
 def main():
     copies()
     words()
@@ -828,6 +872,7 @@ def main():
     built()
     tables()
     charts()
+    twice()
     print("%d checked, %d differ" % (checked, len(failures)))
     sys.exit(1 if failures else 0)
 

@@ -268,6 +268,10 @@ pub fn differences() {
     print_write("width 70,000, height 1", 70_000, 1, &vec![1.0; 210_000]);
     print_write("width 1, height 1, 0.004 three times", 1, 1, &[0.004; 3]);
     print_read("that pixel, 1,1,1,128, in a row of 1", &after(b"#?RGBE\n\n-Y 1 +X 1\n", &[1, 1, 1, 128]), 3);
+    print_saves("1 three times", [1.0; 3]);
+    print_saves("0.75 three times", [0.75; 3]);
+    print_saves("0.1, 0.2, 0.4", [0.1, 0.2, 0.4]);
+    print_saves("100, 10, 1", [100.0, 10.0, 1.0]);
     let (fits, used) = crate_side::write_into(1, 1, &[1.0; 3], 66);
     println!("writer, width 1, height 1, room of 66 bytes: {}, {used} bytes written", if fits { "done" } else { "error" });
     guarantee();
@@ -291,6 +295,18 @@ fn print_write(name: &str, width: usize, height: usize, samples: &[f32]) {
         Written::File(file) => format!("{} bytes: {}", file.len(), file[..file.len().min(90)].escape_ascii()),
     };
     println!("writer, {name}: {word}");
+}
+
+/// Writes a pixel, reads that file, writes what was read, and so on: the four bytes in each file.
+fn print_saves(name: &str, pixel: [f32; 3]) {
+    let mut samples = pixel.to_vec();
+    let mut words = Vec::new();
+    for _ in 0..5 {
+        let Written::File(file) = crate_side::write(1, 1, &samples) else { break };
+        words.push(file[file.len() - 4..].iter().map(u8::to_string).collect::<Vec<_>>().join(","));
+        samples = crate_side::read(1, 1, 3, &file).output.into_iter().map(f32::from_bits).collect();
+    }
+    println!("saved five times, {name}: {}", words.join(" "));
 }
 
 /// Sample sky 9: the crate's file beside `expected_buffer_size`.
