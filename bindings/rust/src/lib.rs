@@ -47,6 +47,11 @@
 //! if each largest is 0 or from 2^-32 to below 2^31: darker pixels come back too bright there and brighter ones too dark.
 //! No pixel that is written from samples starts 1, 1, 1; four-byte pixels are written as they are given
 //! ([`HdrEncoder::new_from_rgbe`]).
+//!
+//! A file that was written from samples, read and written again is the same bytes, if each pixel's largest sample is at
+//! most 1e-32, or no sample of it is a number, or the largest is from 2^-106 to below 2^127 by [`Reading::Document`],
+//! from 2^-32 to below 2^31 by [`Reading::Crate`]. Samples may be negative or no numbers: they come back as 0, or in a
+//! pixel that is not black by the document as half a step.
 
 mod decoder;
 mod encoder;

@@ -4,17 +4,19 @@ use mathlib.Core.List.{List, _++_}
 use mathlib.Core.Path.{_≡_}
 use lib.Ieee.{Float}
 use lib.ListN.{length, take, drop}
+use Rattle.steps.specs.Answer.{Answer}
 use Rattle.steps.specs.declared.Reading.{Reading}
 use Rattle.pixel.specs.Rgbe.{peak}
 use Rattle.loss.specs.Kept.{Numbers}
 use Rattle.loss.specs.Twice.{twiceRange}
-use Rattle.reader.specs.Read.{readOf, ReadPromise}
+use Rattle.header.specs.declared.Head.{Head}
+use Rattle.reader.specs.Read.{readOf, paperOf, ReadPromise}
 use Rattle.reader.specs.declared.ReadAnswer.{ReadAnswer}
 use Rattle.frames_written.specs.Frame.{fileOf}
 use Rattle.writer.specs.Write.{WritePromise}
 use Rattle.writer.specs.declared.WriteAnswer.{WriteAnswer}
 use Rattle.writer.specs.declared.WriteAnswer.the-variants.{Done}
-use Rattle.kept.specs.Back.{pixel, Enough, oneRed}
+use Rattle.kept.specs.Back.{pixel, Enough, doneWith, oneRed}
 
 -- ---- What is asked of a frame of n pixels: where the largest of each lies. Any sample may be negative or no number.
 abbrev pub AllTwice : Reading → List Float → ℕ → Type 0
@@ -33,8 +35,11 @@ SavedTwice reading w h samples =
 
 -- ---- The claim, over the calls
 
--- of a call of the writer with `lent` as its output, that answered and left this: it wrote n bytes, those that stand first in `first`, and nothing behind them
-pub record SameFile (n : ℕ) (first lent : List ℕ) (answer : WriteAnswer) (left : List ℕ) : Type 0 where
+-- the reader's answer, and of the second call of the writer, to which `lent` was lent, its answer and what it left
+pub record SameFile (w h n : ℕ) (first : List ℕ) (told : Answer Head) (lent : List ℕ) (answer : WriteAnswer) (left : List ℕ) : Type 0 where
+  -- the reader took the n bytes of the first file, and told the sizes with which it is written again
+  pub read : told ≡ doneWith w h n
+  -- n bytes were written again, the same ones, and nothing behind them
   pub answered : answer ≡ Done n
   pub bytes : take n left ≡ take n first
   pub beyond : drop n left ≡ drop n lent
@@ -46,7 +51,7 @@ CallsSaveTwice reading w h samples =
     → (rest : List ℕ) (widest highest : ℕ) (out out′ : List Float) (store store′ : List ℕ) (answer : ReadAnswer) → Enough w h widest highest out store
     → ReadPromise reading (take n left ++ rest) widest highest out store answer out′ store′
     → (lent′ left′ : List ℕ) (again : WriteAnswer) → n ≤ length lent′ → WritePromise w h (frameIn w h out′) lent′ again left′
-    → SameFile n left lent′ again left′
+    → SameFile w h n left (paperOf answer) lent′ again left′
 
 -- ---- The ranges can be no wider: a frame of one red pixel, of a number outside the range, that is not the same when it is saved twice
 pub record Changed (reading : Reading) (x : Float) : Type 0 where

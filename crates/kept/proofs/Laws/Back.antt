@@ -96,17 +96,21 @@ pub record PixelsBack (range : ℕ → Type 0) (near : ℕ → ℕ → ℕ → T
 -- ---- Demand 3, by any rules of which that holds
 
 module _ (rowRule : RowRule) (rule : SampleRule) (rows : RowsBack rowRule) where
+  -- the four-byte pixels of a frame come back, in range or not
+  packed-back-by : (w h : ℕ) (samples : List Float) → Sizes w h → ComesBack4 rowRule rule w h (packed samples 0 (w * h))
+  packed-back-by w h samples sizes = read-back4-by rowRule rule rows w h (packed samples 0 (w * h)) sizes (λ flat. packed-no-ones samples (w * h))
+
   -- each pixel comes back as what its four bytes stand for, in range or not
   pub pixels-back-by : (w h : ℕ) (samples : List Float) → Sizes w h → (rest : List ℕ) (widest highest : ℕ) (out : List Float) (store : List ℕ) → Enough w h widest highest out store
       → (k : ℕ) → k < w * h → pixel (readBy rowRule rule (fileOf samples w h ++ rest) widest highest out store .1) k ≡ rule (bytesOf (pixel samples k))
   pixels-back-by w h samples sizes rest widest highest out store enough k l =
-      read-back4-by rowRule rule rows w h (packed samples 0 (w * h)) sizes (λ flat. packed-no-ones samples (w * h)) rest widest highest out store enough .pixels k l
+      packed-back-by w h samples sizes rest widest highest out store enough .pixels k l
       ∙ ap rule (packed-bytes samples (w * h) k l)
 
   pub read-back-by : (range : ℕ → Type 0) (near : ℕ → ℕ → ℕ → Type 0) → PixelsBack range near rule → (w h : ℕ) (samples : List Float) → Sizes w h → AllInRange range samples (w * h)
       → ComesBack near rowRule rule w h samples
   read-back-by range near pixels w h samples sizes all rest widest highest out store enough =
-      let back = read-back4-by rowRule rule rows w h (packed samples 0 (w * h)) sizes (λ flat. packed-no-ones samples (w * h)) rest widest highest out store enough in
+      let back = packed-back-by w h samples sizes rest widest highest out store enough in
       let is = pixels-back-by w h samples sizes rest widest highest out store enough in
       record {
         answered = back .answered;
@@ -126,6 +130,9 @@ reading-pixels reading = record {
 
 pub read-back4 : (reading : Reading) (w h : ℕ) (px : List ℕ) → Sizes w h → NoOnes px w (w * h) → ComesBack4 (rowOf reading) (pixelBy reading) w h px
 read-back4 reading = read-back4-by (rowOf reading) (pixelBy reading) (reading-row-back reading)
+
+pub packed-back : (reading : Reading) (w h : ℕ) (samples : List Float) → Sizes w h → ComesBack4 (rowOf reading) (pixelBy reading) w h (packed samples 0 (w * h))
+packed-back reading = packed-back-by (rowOf reading) (pixelBy reading) (reading-row-back reading)
 
 pub pixels-back : (reading : Reading) (w h : ℕ) (samples : List Float) → Sizes w h → (rest : List ℕ) (widest highest : ℕ) (out : List Float) (store : List ℕ) → Enough w h widest highest out store
     → (k : ℕ) → k < w * h → pixel (readOf reading (fileOf samples w h ++ rest) widest highest out store .1) k ≡ pixelOf (unitsOf reading) (bytesOf (pixel samples k))

@@ -8,7 +8,7 @@ use lib.Dec.{ltb}
 use lib.Ieee.{Float, nan}
 use lib.ListN.{length, getD, take, drop}
 use lib.Seq.{getD-take, length-take-le, take-at, drop-at}
-use Rattle.steps.specs.Answer.{done}
+use Rattle.steps.specs.Answer.{Answer, done}
 use Rattle.steps.specs.Place.{spread}
 use Rattle.steps.proofs.Laws.Place.{spread-front}
 use Rattle.steps.specs.declared.Reading.{Reading}
@@ -17,6 +17,7 @@ use Rattle.pixel.specs.Rgbe.{tooBright, bytesOf}
 use Rattle.loss.specs.Twice.{comesBack}
 use Rattle.loss.proofs.Laws.Written.{bright-is-over, not-bright}
 use Rattle.loss.proofs.Laws.Twice.{twice-below, written-twice}
+use Rattle.header.specs.declared.Head.{Head}
 use Rattle.reader.specs.Read.{readOf, pixelBy}
 use Rattle.rows_read.specs.Row.{rowOf}
 use Rattle.frames_written.specs.Samples.{pixelAt, four, packed}
@@ -27,7 +28,7 @@ use Rattle.writer.specs.declared.WriteAnswer.the-variants.{Done}
 use Rattle.writer.proofs.Laws.Told.{write-told, write-once}
 use Rattle.kept.specs.Back.{pixel, Sizes, Enough, IsWritten}
 use Rattle.kept.specs.Twice.{AllTwice, frameIn, SavedTwice, SameFile, CallsSaveTwice}
-use Rattle.kept.proofs.Laws.Back.{read-back4, pixels-back, packed-no-ones}
+use Rattle.kept.proofs.Laws.Back.{packed-back, pixels-back}
 use Rattle.kept.proofs.Laws.Calls.{sizes-passed, by-calls, passing-written}
 
 -- ---- Pixels that are written alike, one by one, are packed alike
@@ -51,17 +52,18 @@ pixel-in w h out k l = λ t. record { r = at (3 * k) (omega arith) t; g = at (3 
     at i l = getD-take (3 * (w * h)) out i nan l
 
 module _ (reading : Reading) (w h : ℕ) (samples : List Float) (sizes : Sizes w h) (rest : List ℕ) (widest highest : ℕ) (out : List Float) (store : List ℕ) (enough : Enough w h widest highest out store) where
+  abbrev left : Answer Head × List Float × List ℕ
+  left = readOf reading (fileOf samples w h ++ rest) widest highest out store
+
   abbrev frame : List Float
-  frame = frameIn w h (readOf reading (fileOf samples w h ++ rest) widest highest out store .1)
+  frame = frameIn w h (left .1)
 
   -- each pixel of it is what the bytes of the frame's pixel show
   pub frame-pixel : (k : ℕ) → k < w * h → pixel frame k ≡ comesBack reading (pixel samples k)
   frame-pixel k l = pixel-in w h _ k l ∙ pixels-back reading w h samples sizes rest widest highest out store enough k l
 
   frame-length : length frame ≡ 3 * (w * h)
-  frame-length =
-      let back = read-back4 reading w h (packed samples 0 (w * h)) sizes (λ flat. packed-no-ones samples (w * h)) rest widest highest out store enough in
-      length-take-le (3 * (w * h)) _ (omega (arith, back .beyond .long, enough .room))
+  frame-length = length-take-le (3 * (w * h)) _ (omega (arith, packed-back reading w h samples sizes rest widest highest out store enough .beyond .long, enough .room))
 
   module _ (all : AllTwice reading samples (w * h)) where
     same-bytes : (k : ℕ) → k < w * h → bytesOf (pixel frame k) ≡ bytesOf (pixel samples k)
@@ -78,16 +80,17 @@ module _ (reading : Reading) (w h : ℕ) (samples : List Float) (sizes : Sizes w
         bright-is-over (pixel frame k) ∙ ap (λ (q : Rgbe). ltb 255 (q .e)) (same-bytes k l) ∙ sym (bright-is-over (pixel samples k)) ∙ not-bright (pixel samples k) (twice-below reading _ (all k l))
 
     -- so a call of the writer with room for the file leaves that file
-    same-call : (first tail lent left : List ℕ) (again : WriteAnswer) → first ≡ fileOf samples w h ++ tail → WritePromise w h frame lent again left → length (fileOf samples w h) ≤ length lent
-        → SameFile (length (fileOf samples w h)) first lent again left
-    same-call first tail lent left again is wrote room =
+    same-call : (first tail lent′ left′ : List ℕ) (again : WriteAnswer) → first ≡ fileOf samples w h ++ tail → WritePromise w h frame lent′ again left′ → length (fileOf samples w h) ≤ length lent′
+        → SameFile w h (length (fileOf samples w h)) first (left .0) lent′ again left′
+    same-call first tail lent′ left′ again is wrote room =
         let file : List ℕ = fileOf samples w h in
-        let due : writeOf w h frame lent ≡ (done (length file), spread 1 lent 0 file) =
-        passing-written w h frame sizes frame-length same-passes lent (subst (λ (f : List ℕ). length f ≤ length lent) (sym same-file) room)
-        ∙ ap (λ (f : List ℕ). (done (length f), spread 1 lent 0 f)) same-file in
-        let once = write-once w h again (Done (length file)) frame lent left (spread 1 lent 0 file) wrote (sym due) in
-        let stands = once .1 ∙ spread-front lent file room in
+        let due : writeOf w h frame lent′ ≡ (done (length file), spread 1 lent′ 0 file) =
+        passing-written w h frame sizes frame-length same-passes lent′ (subst (λ (f : List ℕ). length f ≤ length lent′) (sym same-file) room)
+        ∙ ap (λ (f : List ℕ). (done (length f), spread 1 lent′ 0 f)) same-file in
+        let once = write-once w h again (Done (length file)) frame lent′ left′ (spread 1 lent′ 0 file) wrote (sym due) in
+        let stands = once .1 ∙ spread-front lent′ file room in
         record {
+          read = packed-back reading w h samples sizes rest widest highest out store enough .answered;
           answered = once .0;
           bytes = ap (take (length file)) stands ∙ take-at file _ _ refl ∙ sym (ap (take (length file)) is ∙ take-at file _ _ refl);
           beyond = ap (drop (length file)) stands ∙ drop-at file _ _ refl;
@@ -102,7 +105,7 @@ pub calls-save-twice : (reading : Reading) (w h : ℕ) (samples : List Float) �
 calls-save-twice reading w h samples all lent left n wrote rest widest highest out out′ store store′ answer enough read lent′ left′ again room wrote′ =
     let told = write-told w h n samples lent left (sym wrote) in
     by-calls (rowOf reading) (pixelBy reading) (fileOf samples w h) lent left n (told .2) rest widest highest out out′ store store′ answer read
-    (λ m z. WritePromise w h (frameIn w h (z .1)) lent′ again left′ → m ≤ length lent′ → SameFile m left lent′ again left′)
+    (λ m z. WritePromise w h (frameIn w h (z .1)) lent′ again left′ → m ≤ length lent′ → SameFile w h m left (z .0) lent′ again left′)
     (same-call reading w h samples (sizes-passed w h (length samples) 3 (told .0)) rest widest highest out store enough all left (drop n lent) lent′ left′ again (told .2 .bytes))
     wrote′ room
 
