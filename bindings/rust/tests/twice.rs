@@ -1,4 +1,5 @@
-//! Open, look, save: a file that was written, read and written again has the same bytes, in the range that docs/RULES.md, 8.5, has for each reading.
+//! Open, look, save: a file that was written, read and written again has the same bytes, in the range that
+//! docs/RULES.md has for each reading in 8.5.
 
 use doorwhisp::{DecoderOptions, EncoderOptions, HdrDecoder, HdrEncoder, Reading};
 
@@ -16,7 +17,8 @@ impl Random {
         ((self.0 >> 20) % u64::from(n)) as u32
     }
 
-    /// Any sample that is not above the one of these bits: a number down to 0, a negative one, minus infinity, or no number.
+    /// Any sample that is not above the one of these bits: a number down to 0, a negative one, minus infinity,
+    /// or no number.
     fn at_most(&mut self, bits: u32) -> f32 {
         f32::from_bits(match self.below(4) {
             0 => 0x8000_0000 + self.below(0x7f80_0001),
@@ -25,12 +27,12 @@ impl Random {
         })
     }
 
-    /// Three samples, of which the largest lies from 2^low to below 2^high; one time in eight all are written black.
+    /// Three samples, of which the largest lies from 2^low to below 2^high; one time in eight all are black.
     fn pixel(&mut self, low: i32, high: i32) -> [f32; 3] {
         if self.below(8) == 0 {
             return [0; 3].map(|_| self.at_most(LAST_BLACK));
         }
-        let exponent = 127 + low as u32 + self.below((high - low) as u32);
+        let exponent = (127 + low) as u32 + self.below((high - low) as u32);
         let largest = (exponent << 23) + self.below(1 << 23);
         let mut pixel = [0; 3].map(|_| self.at_most(largest));
         pixel[self.below(3) as usize] = f32::from_bits(largest);
@@ -39,12 +41,16 @@ impl Random {
 }
 
 fn saved(samples: &[f32], width: usize, height: usize) -> Vec<u8> {
-    HdrEncoder::new(samples, EncoderOptions::new(width, height)).encode_to_vec().unwrap()
+    HdrEncoder::new(samples, EncoderOptions::new(width, height))
+        .encode_to_vec()
+        .unwrap()
 }
 
 fn opened(file: &[u8], reading: Reading) -> Vec<f32> {
     let options = DecoderOptions::default().set_reading(reading);
-    HdrDecoder::new_with_options(file, options).decode().unwrap()
+    HdrDecoder::new_with_options(file, options)
+        .decode()
+        .unwrap()
 }
 
 #[test]
@@ -52,25 +58,36 @@ fn a_file_in_range_is_saved_again_as_it_was() {
     let mut random = Random(208);
     for (reading, low, high) in [(Reading::Crate, -32, 31), (Reading::Document, -106, 127)] {
         for (width, height) in [(1, 50), (7, 40), (8, 40), (200, 30), (1000, 12)] {
-            let samples: Vec<f32> = (0..width * height).flat_map(|_| random.pixel(low, high)).collect();
+            let samples: Vec<f32> = (0..width * height)
+                .flat_map(|_| random.pixel(low, high))
+                .collect();
             let file = saved(&samples, width, height);
             let back = opened(&file, reading);
             assert!(back.iter().all(|x| x.is_finite() && x.is_sign_positive()));
-            assert_eq!(saved(&back, width, height), file, "{reading:?}, {width} by {height}");
+            assert_eq!(
+                saved(&back, width, height),
+                file,
+                "{reading:?}, {width} by {height}"
+            );
         }
     }
 }
 
 #[test]
 fn just_outside_the_ranges_it_is_not() {
-    let again = |bits: u32, reading| {
-        let file = saved(&[f32::from_bits(bits), 0.0, 0.0], 1, 1);
+    let becomes = |red: u32, reading, first: [u8; 4], shown: u32, second: [u8; 4]| {
+        let file = saved(&[f32::from_bits(red), 0.0, 0.0], 1, 1);
         let back = opened(&file, reading);
-        (file[63..].to_vec(), back[0].to_bits(), saved(&back, 1, 1)[63..].to_vec())
+        assert_eq!(file[63..], first);
+        assert_eq!(back[0].to_bits(), shown);
+        assert_eq!(saved(&back, 1, 1)[63..], second);
     };
     // the f32 next above 1e-32 falls to black
-    assert_eq!(again(0x0a4f_b120, Reading::Document), (vec![207, 0, 0, 22], 0x0a4f_8000, vec![0; 4]));
+    let (first, second) = ([207, 0, 0, 22], [0, 0, 0, 0]);
+    becomes(0x0a4f_b120, Reading::Document, first, 0x0a4f_8000, second);
     // the f32 next below 2^-32, and 2^31, are shown by the crate reading as 255/256 and 1/2
-    assert_eq!(again(0x2f7f_ffff, Reading::Crate), (vec![255, 0, 0, 96], 0x3f7f_0000, vec![255, 0, 0, 128]));
-    assert_eq!(again(0x4f00_0000, Reading::Crate), (vec![128, 0, 0, 160], 0x3f00_0000, vec![128, 0, 0, 128]));
+    let (first, second) = ([255, 0, 0, 96], [255, 0, 0, 128]);
+    becomes(0x2f7f_ffff, Reading::Crate, first, 0x3f7f_0000, second);
+    let (first, second) = ([128, 0, 0, 160], [128, 0, 0, 128]);
+    becomes(0x4f00_0000, Reading::Crate, first, 0x3f00_0000, second);
 }
