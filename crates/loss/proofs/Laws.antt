@@ -1,4 +1,4 @@
--- What is claimed of a pixel: `Values` and `Apart` (reading), `Written`, `Dark` and `Last` (writing), `Kept` and `ByDocument` (loss), and `Sharp`, that no bound in these is loose.
+-- What is claimed of a pixel: `Values` and `Apart` (reading), `Written`, `Dark` and `Last` (writing), `Kept` and `ByDocument` (loss), `Twice` (saving twice), and `Sharp`, that no bound in these is loose.
 pub mod Scales
 pub mod Values
 pub mod Apart

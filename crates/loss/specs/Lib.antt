@@ -1,4 +1,4 @@
--- What is claimed of one pixel, read and written: RULES 4.14, 5.1 and 8.4.
+-- What is claimed of one pixel, read and written: RULES 4.14, 5.1, 8.4 and 8.5.
 pub mod Document
 pub mod Apart
 pub mod Written
