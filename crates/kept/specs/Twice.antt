@@ -22,7 +22,7 @@ use Rattle.kept.specs.Back.{pixel, Enough, doneWith, oneRed}
 abbrev pub AllTwice : Reading → List Float → ℕ → Type 0
 AllTwice reading samples n = (k : ℕ) → k < n → twiceRange reading (peak (pixel samples k))
 
--- the frame that a reader left in its output
+-- the frame that a reader left in its output: the first 3wh samples
 abbrev pub frameIn : ℕ → ℕ → List Float → List Float
 frameIn w h out = take (3 * (w * h)) out
 
@@ -53,7 +53,7 @@ CallsSaveTwice reading w h samples =
     → (lent′ left′ : List ℕ) (again : WriteAnswer) → n ≤ length lent′ → WritePromise w h (frameIn w h out′) lent′ again left′
     → SameFile w h n left (paperOf answer) lent′ again left′
 
--- ---- The ranges can be no wider: a frame of one red pixel, of a number outside the range, that is not the same when it is saved twice
+-- ---- The ranges can be no wider at their dark ends, nor the crate reading's at its bright end: a frame of one red pixel, of a number outside the range, is not the same when it is saved twice
 pub record Changed (reading : Reading) (x : Float) : Type 0 where
   pub numbers : Numbers (pixel (oneRed x) 0)
   pub outside : twiceRange reading (peak (pixel (oneRed x) 0)) → ⊥
