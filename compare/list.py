@@ -202,7 +202,7 @@ def bounds_of_bytes():
 
 
 def saved_twice():
-    """Frames that are written, read and written again: the same bytes in a reading's range, other ones just outside it."""
+    """Frames that are written, read and written again: the same bytes in a reading's range; outside it some are others."""
     def saved(w, h, call, samples, fours, back, again):
         head, n = HEADER.format(w=w, h=h).encode(), 4 * w * h
         size = len(head) + n

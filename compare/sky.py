@@ -846,6 +846,7 @@ def twice():
             for again in (DOCUMENT, CRATE):
                 run("copy", *again, "first.hdr", "second.hdr", "--force")
                 check(" ".join(("the copy of the copy of", name, *reading, "then", *again)), load("second.hdr") == want)
+    print("  %d copies, each copied by both readings" % copied)
     check("many copies of copies", copied > 30)
 
 

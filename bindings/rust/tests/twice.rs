@@ -74,7 +74,7 @@ fn a_file_in_range_is_saved_again_as_it_was() {
 }
 
 #[test]
-fn just_outside_the_ranges_it_is_not() {
+fn outside_the_ranges_it_may_be_another() {
     let becomes = |red: u32, reading, first: [u8; 4], shown: u32, second: [u8; 4]| {
         let file = saved(&[f32::from_bits(red), 0.0, 0.0], 1, 1);
         let back = opened(&file, reading);

@@ -53,7 +53,7 @@ CallsSaveTwice reading w h samples =
     → (lent′ left′ : List ℕ) (again : WriteAnswer) → n ≤ length lent′ → WritePromise w h (frameIn w h out′) lent′ again left′
     → SameFile w h n left (paperOf answer) lent′ again left′
 
--- ---- The ranges can be no wider at their dark ends, nor the crate reading's at its bright end: a frame of one red pixel, of a number outside the range, is not the same when it is saved twice
+-- ---- Outside its range a frame may change: one red pixel, of a number that lies outside, is not the same when it is saved twice
 pub record Changed (reading : Reading) (x : Float) : Type 0 where
   pub numbers : Numbers (pixel (oneRed x) 0)
   pub outside : twiceRange reading (peak (pixel (oneRed x) 0)) → ⊥
