@@ -1,4 +1,4 @@
--- By the crate reading the range of demand 3 is the widest: just below it and at its upper end a frame is written that does not come back within a step. Just outside the ranges of saving twice a frame is written that is not the same at the second save.
+-- By the crate reading the range of demand 3 is the widest: just below it and at its upper end a frame is written that does not come back within a step. Outside the ranges of saving twice a frame is written that is not the same at the second save.
 use Prim.Native.Nat.{ℕ, _-_, _<_, _≤_}
 use mathlib.Core.List.{List, [], _∷_}
 use mathlib.Core.Logic.{_⊎_, inl, inr, ⊎-elim}
