@@ -21,7 +21,7 @@ pub fn past(bytes: &[u8], at: usize, b: u8) -> usize
 }
 
 // Whether two byte strings are the same.
-pub(crate) fn same(a: &[u8], b: &[u8]) -> bool
+pub fn same(a: &[u8], b: &[u8]) -> bool
     ensures { λ r. ⌜ r ≡ same (now (a .entry)) (now (b .entry)) ⌝ }
 {
     if a.len() != b.len() {

@@ -27,11 +27,11 @@ fn with_digit(n: usize, x: u8) -> Size
     Size::Number(n * 10 + d)
 }
 
-// The number below 2^64 that digits stand for.
-pub fn number_of(digits: &[u8]) -> Size
-    ensures { λ r. ⌜ r ≡ numberFrom 0 (now (digits .entry)) ⌝ }
+// The number below 2^64 that digits stand for, after those that stand for `before`.
+pub fn number_from(before: usize, digits: &[u8]) -> Size
+    ensures { λ r. ⌜ r ≡ numberFrom before (now (digits .entry)) ⌝ }
 {
-    let mut n = 0;
+    let mut n = before;
     let mut i = 0;
     while i < digits.len() {
         let s = with_digit(n, digits[i]);
@@ -46,6 +46,13 @@ pub fn number_of(digits: &[u8]) -> Size
         i += 1;
     }
     Size::Number(n)
+}
+
+// The number below 2^64 that digits stand for.
+pub fn number_of(digits: &[u8]) -> Size
+    ensures { λ r. ⌜ r ≡ numberFrom 0 (now (digits .entry)) ⌝ }
+{
+    number_from(0, digits)
 }
 
 // The field without its leading plus.

@@ -1,16 +1,17 @@
 -- The laws that proofs use of `specs/Sizes.antt`.
-use Prim.Native.Nat.{ℕ, suc, _+_, _-_, _*_, _/_, _^_, _<_, _≤_}
+use Prim.Native.Nat.{ℕ, suc, pow·suc, _+_, _-_, _*_, _/_, _^_, _<_, _≤_}
 use mathlib.Core.Bool.{Bool, true, false, _&&_}
-use mathlib.Core.List.{List, [], _∷_}
-use mathlib.Core.Path.{_≡_, refl, sym, ap, _∙_}
-use native.Mathlib.Nat.{le-trans}
+use mathlib.Core.List.{List, [], _∷_, _++_}
+use mathlib.Core.Path.{_≡_, refl, sym, ap, _∙_, subst}
+use native.Mathlib.Nat.{le-trans, lt-of-lt-of-le, mul-le-mul-right, mul-assoc, mul-comm}
 use native.Mathlib.Omega.{arith}
 use native.Mathlib.Numerals.{add-one}
-use borrow.Author.Tests.{eq-eqb, ne-eqb, le-leb, lt-leb, lt-ltb, le-ltb, ltb-true, ltb-false}
+use borrow.Author.Tests.{eq-eqb, ne-eqb, le-leb, lt-leb, lt-ltb, le-ltb, ltb-true, ltb-false, leb-true}
 use lib.ListN.{length, getD, take, drop, drop-of-length-le}
 use lib.Seq.{drop-cons, take-all}
-use lib.Dec.{ltb}
+use lib.Dec.{ltb, leb}
 use Rattle.steps.specs.Loop.{pick}
+use Rattle.steps.proofs.Laws.Turns.{and-left, and-right}
 use Rattle.words.specs.Sizes.{unsigned, isDigit, allDigits, valueFrom, isNumber, isSome, isSize, sizeOf, numberFrom}
 use Rattle.words.specs.Inner.{sizeAnswer}
 use Rattle.words.specs.declared.sizes.Size.{Size}
@@ -110,6 +111,59 @@ module _ (n x : ℕ) (xs : List ℕ) where
   first-none true false et eu e = by-digit n x xs true et ∙ too-large (n * 10 + (x - 48)) xs (large eu)
   first-none true true et eu e =
       absurd (no-number (n * 10 + (x - 48)) (number-all (n * 10 + (x - 48)) (ltb-true (n * 10 + (x - 48)) (2 ^ 64) eu) ∙ sym (by-digit n x [] true et) ∙ sym e))
+
+-- ---- Digits in two parts
+
+no-digits : (n : ℕ) (t : Bool) → ltb n (2 ^ 64) ≡ t → numberFrom n [] ≡ pick t (Number n) NoNumber
+unfolding numberFrom isNumber allDigits valueFrom
+no-digits n t e = rw e
+
+pub append-number : (n : ℕ) (xs ys : List ℕ) (k : ℕ) → numberFrom n xs ≡ Number k → numberFrom n (xs ++ ys) ≡ numberFrom k ys
+append-number n [] ys k e = go (ltb n (2 ^ 64)) refl
+  where
+    go : (t : Bool) → ltb n (2 ^ 64) ≡ t → numberFrom n ys ≡ numberFrom k ys
+    go true h = let is : Number n ≡ Number k = sym (no-digits n true h) ∙ e in let n-is : n ≡ k = cc in rw n-is
+    go false h = absurd (no-number k (sym e ∙ no-digits n false h))
+append-number n (x ∷ xs) ys k e = go (isDigit x) refl (append-number (n * 10 + (x - 48)) xs ys k)
+  where
+    go : (t : Bool) → isDigit x ≡ t → (numberFrom (n * 10 + (x - 48)) xs ≡ Number k → numberFrom (n * 10 + (x - 48)) (xs ++ ys) ≡ numberFrom k ys) → numberFrom n (x ∷ (xs ++ ys)) ≡ numberFrom k ys
+    go true h f = by-digit n x (xs ++ ys) true h ∙ f (sym (by-digit n x xs true h) ∙ e)
+    go false h f = absurd (no-number k (sym e ∙ by-digit n x xs false h))
+
+pub append-none : (n : ℕ) (xs ys : List ℕ) → numberFrom n xs ≡ NoNumber → numberFrom n (xs ++ ys) ≡ NoNumber
+append-none n [] ys e = go (ltb n (2 ^ 64)) refl
+  where
+    go : (t : Bool) → ltb n (2 ^ 64) ≡ t → numberFrom n ys ≡ NoNumber
+    go true h = absurd (no-number n (sym (no-digits n true h) ∙ e))
+    go false h = too-large n ys (ltb-false n (2 ^ 64) h)
+append-none n (x ∷ xs) ys e = go (isDigit x) refl (append-none (n * 10 + (x - 48)) xs ys)
+  where
+    go : (t : Bool) → isDigit x ≡ t → (numberFrom (n * 10 + (x - 48)) xs ≡ NoNumber → numberFrom (n * 10 + (x - 48)) (xs ++ ys) ≡ NoNumber) → numberFrom n (x ∷ (xs ++ ys)) ≡ NoNumber
+    go true h f = by-digit n x (xs ++ ys) true h ∙ f (sym (by-digit n x xs true h) ∙ e)
+    go false h f = by-digit n x (xs ++ ys) false h
+
+-- ---- So many digits stand for less than that power of ten
+
+one-digit : (x : ℕ) → isDigit x ≡ true → x ≤ 57
+unfolding isDigit
+one-digit x e = leb-true x 57 (and-right (leb 48 x) (leb x 57) e)
+
+first-digit : (x : ℕ) (xs : List ℕ) → allDigits (x ∷ xs) ≡ true → (isDigit x ≡ true) × (allDigits xs ≡ true)
+unfolding allDigits
+first-digit x xs e = (and-left (isDigit x) (allDigits xs) e, and-right (isDigit x) (allDigits xs) e)
+
+pub digits-below : (n : ℕ) (xs : List ℕ) → allDigits xs ≡ true → valueFrom n xs < (n + 1) * 10 ^ length xs
+unfolding valueFrom
+digits-below n [] e = omega arith
+digits-below n (x ∷ xs) e =
+    let d = first-digit x xs e in
+    lt-of-lt-of-le (digits-below (n * 10 + (x - 48)) xs (d .1)) (subst (λ (z : ℕ). (n * 10 + (x - 48) + 1) * 10 ^ length xs ≤ z) (shift n (length xs)) (mul-le-mul-right (10 ^ length xs) (digit-most n x (one-digit x (d .0)))))
+  where
+    digit-most : (n x : ℕ) → x ≤ 57 → n * 10 + (x - 48) + 1 ≤ (n + 1) * 10
+    digit-most n x h = omega arith
+
+    shift : (n l : ℕ) → (n + 1) * 10 * 10 ^ l ≡ (n + 1) * 10 ^ suc l
+    shift n l = mul-assoc (n + 1) 10 (10 ^ l) ∙ ap (λ (z : ℕ). (n + 1) * z) (mul-comm 10 (10 ^ l) ∙ sym (pow·suc 10 l))
 
 -- a number that has come to the place i of the digits
 module _ (digits : List ℕ) (n i : ℕ) (w : Size) (is : numberFrom n (drop i digits) ≡ w) where
