@@ -28,7 +28,7 @@ bits-are (fin s m e) n h =
     ∙ ap bitsOf (ap (λ (z : ℕ). z / down e) (h .1) ∙ mul-div-cancel n (down-pos e))
 
 -- one value, one float
-value-unique : (x y : Float) (n : ℕ) → T (fits binary32 x) → T (fits binary32 y) → Exactly x n → Exactly y n → x ≡ y
+pub value-unique : (x y : Float) (n : ℕ) → T (fits binary32 x) → T (fits binary32 y) → Exactly x n → Exactly y n → x ≡ y
 value-unique x y n p q h k = sym (ofBits-toBits binary32 x p) ∙ ap (ofBits binary32) (bits-are x n h ∙ sym (bits-are y n k)) ∙ ofBits-toBits binary32 y q
 
 -- ---- an exponent field alone

@@ -1,6 +1,6 @@
 -- What an f32 sample is as a whole number of 2^-149: its shape and its value.
 use mathlib.Core.Path.{_≡_, refl, sym, ap, _∙_, subst}
-use mathlib.Core.Bool.{Bool, true, false, not, _&&_}
+use mathlib.Core.Bool.{Bool, true, false, not, _&&_, false≢true}
 use mathlib.Core.Logic.{⊎-elim}
 use Prim.Native.Nat.{ℕ, zero, suc, _+_, _-_, _*_, _/_, _%_, _^_, _≤_, _<_}
 use native.Mathlib.Nat.{mul-div-cancel, mul-assoc, mul-one, zero-mul, lt-irrefl, lt-of-lt-of-le, mul-lt-mul-of-pos-right}
@@ -8,7 +8,7 @@ use native.Mathlib.Omega.{arith}
 use lib.IntN.{ℤ, pos, negsuc}
 use lib.Dec.{T, ltb, leb, eqb, lit<, leb→le, ltb→lt}
 use lib.Pow.{pow-pos, pow-add, pow-mono, pow-lt, shl-lt}
-use lib.Ieee.{Float, nan, inf, fin, binary32, up, down, fits, isNan}
+use lib.Ieee.{Float, nan, inf, fin, binary32, up, down, fits, isNan, eq}
 use lib.Ieee.Fits.{down-pos, and-l, and-r}
 use Rattle.steps.proofs.Laws.Order.{lt-or-ge}
 use Rattle.pixel.specs.Units.{Exactly, mag}
@@ -76,3 +76,10 @@ unfolding isNan
 bright-number nan b = absurd b
 bright-number (inf s) b = tt
 bright-number (fin s m e) b = tt
+
+-- what equals itself is a number, and so has a bit pattern
+pub self-number : (x : Float) → eq x x ≡ true → T (not (isNan x))
+unfolding eq isNan
+self-number nan e = absurd (false≢true e)
+self-number (inf s) e = tt
+self-number (fin s m d) e = tt
