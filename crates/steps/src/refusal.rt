@@ -34,4 +34,8 @@ pub const NO_ROOM: u8 = 13;
 
 pub const BROKEN_ROW: u8 = 14;
 
+pub const UNKNOWN_FORMAT: u8 = 15;
+
+pub const EXPOSURE: u8 = 16;
+
 pub const OLD_RUN: u8 = 25;
