@@ -8,20 +8,20 @@ use Rattle.pixel.specs.Rgbe.{unitsOf, pixelOf, packedOf}
 use Rattle.header.specs.Head.{headerOf}
 use Rattle.reader.specs.Read.{outputSize, readOf}
 use Rattle.writer.specs.Write.{lengthOf, length4Of, worstAnswer, writeOf, write4Of, expectedSize}
-use Rattle.numbers.specs.Numbers.{sizes, single, numbers, counted, withOne, withTwo}
+use Rattle.numbers.specs.Numbers.{headValues, single, numbers, counted, withOne, withTwo}
 use Rattle.doorwhisp.specs.Pixels.{pixel, rgbe, samplesOf, packedInto}
 
 -- ---- The reader
 
--- `doorwhisp_read_header` and `doorwhisp_read_document_header`, by `header::read`: the header is the same in both readings
-abbrev pub ReadHeader : List ℕ → ℕ → ℕ → List ℕ → Type 0
-ReadHeader bytes widest highest answer = answer ≡ numbers sizes (headerOf bytes widest highest)
+-- `doorwhisp_read_header`, by `header::read` in the crate reading, and `doorwhisp_read_document_header` in the document reading
+abbrev pub ReadHeader : Reading → List ℕ → ℕ → ℕ → List ℕ → Type 0
+ReadHeader reading bytes widest highest answer = answer ≡ numbers headValues (headerOf reading bytes widest highest)
 
 -- `doorwhisp_read`, by `reader::read` in the crate reading, and `doorwhisp_read_document` in the document reading: the answer, the output and the
 -- row store afterwards
 abbrev pub Read : Reading → List ℕ → ℕ → ℕ → List Float → List ℕ → List ℕ → List Float → List ℕ → Type 0
 Read reading bytes widest highest out store answer out′ store′ =
-    (answer, out′, store′) ≡ withTwo sizes (readOf reading bytes widest highest out store)
+    (answer, out′, store′) ≡ withTwo headValues (readOf reading bytes widest highest out store)
 
 -- `doorwhisp_output_buffer_size`, by `reader::output_buffer_size`
 abbrev pub OutputBufferSize : ℕ → ℕ → List ℕ → Type 0

@@ -19,7 +19,7 @@ ghost use Rattle.doorwhisp.specs.Calls.{
   PixelToBytes,
 };
 
-// Reads the header at the start of the bytes.
+// Reads the header at the start of the bytes, as zune-hdr does.
 #[no_mangle]
 pub extern "C" fn doorwhisp_read_header(
     bytes: &[u8],
@@ -27,12 +27,12 @@ pub extern "C" fn doorwhisp_read_header(
     highest: usize,
     answer: &mut [u64; 8],
 )
-    ensures { λ _. ⌜ ReadHeader (now (bytes .entry)) widest highest (now (answer .exit)) ⌝ }
+    ensures { λ _. ⌜ ReadHeader Crate (now (bytes .entry)) widest highest (now (answer .exit)) ⌝ }
 {
-    numbers::head(answer, header::read(bytes, widest, highest));
+    numbers::head(answer, header::read(Reading::Crate, bytes, widest, highest));
 }
 
-// Reads the header at the start of the bytes, by the Radiance document.
+// The same by the Radiance document.
 #[no_mangle]
 pub extern "C" fn doorwhisp_read_document_header(
     bytes: &[u8],
@@ -40,9 +40,9 @@ pub extern "C" fn doorwhisp_read_document_header(
     highest: usize,
     answer: &mut [u64; 8],
 )
-    ensures { λ _. ⌜ ReadHeader (now (bytes .entry)) widest highest (now (answer .exit)) ⌝ }
+    ensures { λ _. ⌜ ReadHeader Document (now (bytes .entry)) widest highest (now (answer .exit)) ⌝ }
 {
-    let told = header::read(bytes, widest, highest);
+    let told = header::read(Reading::Document, bytes, widest, highest);
     numbers::head(answer, told);
 }
 

@@ -1,15 +1,18 @@
--- What reading the header answers (RULES 3.5 to 3.7), with the checks 1 to 5 (RULES 2.2).
+-- What reading the header answers (RULES 3.5 to 3.7), with the checks 1 to 5, 15 and 16 (RULES 2.2).
 use Prim.Native.Nat.{ℕ, min}
 use mathlib.Core.Bool.{Bool, true, false, not, _&&_}
 use mathlib.Core.List.{List, [], _∷_}
 use mathlib.Core.Path.{_≡_}
 use lib.Dec.{ltb}
 use Rattle.steps.specs.Answer.{Answer, done, refuse, refusalOf, Check, check, checked}
+use Rattle.steps.specs.declared.Reading.{Reading}
 use Rattle.words.specs.Lines.{lineFeed, past, firstLine, isFirst, linesEnd}
 use Rattle.words.specs.Fields.{Fields, fieldsAt, axesOf}
 use Rattle.words.specs.Sizes.{sizeOf, isSize}
 use Rattle.words.specs.declared.fields.Axes.{Axes}
 use Rattle.words.specs.declared.fields.Axes.the-variants.{HeightFirst, WidthFirst, Other}
+use Rattle.stated.specs.declared.Said.{Said}
+use Rattle.stated.specs.Said.{saidBy, faultOf, heardIn}
 use Rattle.header.specs.declared.Head.{Head}
 use Rattle.header.specs.declared.HeadAnswer.{HeadAnswer}
 use Rattle.header.specs.declared.HeadAnswer.the-variants.{Read, Refused}
@@ -51,32 +54,40 @@ sizeChecks height width widest highest =
 abbrev pub fieldChecks : Axes → Fields → ℕ → ℕ → List Check
 fieldChecks axes f widest highest = check 2 (isOther axes) ∷ sizeChecks (heightField axes f) (widthField axes f) widest highest
 
--- the checks 1 to 5
-unfoldable pub headChecks : List ℕ → ℕ → ℕ → List Check
-headChecks bytes widest highest =
-    let f = fieldsOf bytes in
-    check 1 (not (isFirst (firstLine bytes))) ∷ fieldChecks (axesOf (f .first) (f .third)) f widest highest
+-- what the lines after the first say, by a reading
+unfoldable pub saidIn : Reading → List ℕ → Answer Said
+saidIn reading bytes = saidBy reading bytes (past lineFeed bytes 0)
 
--- a header of this width and height, and so many bytes taken
-abbrev pub head : ℕ → ℕ → ℕ → Head
-head width height taken = record { width = width; height = height; taken = taken }
+-- check 1; 15 or 16, whichever the lines come to first; and the checks 2 to 5
+unfoldable pub headChecks : Reading → List ℕ → ℕ → ℕ → List Check
+headChecks reading bytes widest highest =
+    let f = fieldsOf bytes in
+    check 1 (not (isFirst (firstLine bytes))) ∷ faultOf (saidIn reading bytes) ∷ fieldChecks (axesOf (f .first) (f .third)) f widest highest
+
+-- a header whose lines say this, of this width and height, and so many bytes taken
+abbrev pub head : Said → ℕ → ℕ → ℕ → Head
+head said width height taken = record { width = width; height = height; taken = taken; colour = said .colour; exposure = said .exposure }
 
 -- the same header, with another count of bytes taken
 abbrev pub taking : Head → ℕ → Head
-taking head taken = record { width = head .width; height = head .height; taken = taken }
+taking head taken = record { width = head .width; height = head .height; taken = taken; colour = head .colour; exposure = head .exposure }
 
--- width, height, and the count of bytes taken
-abbrev pub headBy : List ℕ → List ℕ → ℕ → Head
-headBy height width taken = head (sizeOf width) (sizeOf height) taken
+-- width, height, the count of bytes taken, and what the lines say
+abbrev pub headBy : Said → List ℕ → List ℕ → ℕ → Head
+headBy said height width taken = head said (sizeOf width) (sizeOf height) taken
 
-unfoldable pub headOf : Fields → Head
-headOf f =
+unfoldable pub headOf : Said → Fields → Head
+headOf said f =
     let axes = axesOf (f .first) (f .third) in
-    headBy (heightField axes f) (widthField axes f) (f .taken)
+    headBy said (heightField axes f) (widthField axes f) (f .taken)
+
+-- the header of the bytes
+abbrev pub headIn : Reading → List ℕ → Head
+headIn reading bytes = headOf (heardIn (saidIn reading bytes)) (fieldsOf bytes)
 
 -- what reading the header answers
-unfoldable pub headerOf : List ℕ → ℕ → ℕ → Answer Head
-headerOf bytes widest highest = checked refuse (headChecks bytes widest highest) (done (headOf (fieldsOf bytes)))
+unfoldable pub headerOf : Reading → List ℕ → ℕ → ℕ → Answer Head
+headerOf reading bytes widest highest = checked refuse (headChecks reading bytes widest highest) (done (headIn reading bytes))
 
 -- the paper's answer, for each case of the call's answer
 abbrev pub paperOf : HeadAnswer → Answer Head
@@ -84,5 +95,5 @@ paperOf (Read head) = done head
 paperOf (Refused refusal) = refusalOf refusal
 
 -- what `header::read` promises
-abbrev pub HeaderPromise : List ℕ → ℕ → ℕ → HeadAnswer → Type 0
-HeaderPromise bytes widest highest answer = paperOf answer ≡ headerOf bytes widest highest
+abbrev pub HeaderPromise : Reading → List ℕ → ℕ → ℕ → HeadAnswer → Type 0
+HeaderPromise reading bytes widest highest answer = paperOf answer ≡ headerOf reading bytes widest highest

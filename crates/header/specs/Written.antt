@@ -3,8 +3,13 @@ use Prim.Native.Nat.{ℕ, zero, suc, _+_, _/_, _%_}
 use mathlib.Core.Bool.{true, false}
 use mathlib.Core.List.{List, [], _∷_, _++_}
 use lib.Dec.{ltb}
+use Rattle.steps.specs.declared.Reading.{Reading}
+use Rattle.steps.specs.declared.Reading.the-variants.{Crate, Document}
 use Rattle.words.specs.Lines.{lineFeed, space, radianceLine}
 use Rattle.words.specs.Fields.{minusY, plusX}
+use Rattle.stated.specs.declared.Said.{Said}
+use Rattle.stated.specs.declared.Colour.the-variants.{Rgbe}
+use Rattle.stated.specs.Said.{nothing, coloured}
 
 -- SOFTWARE=zune-hdr
 abbrev pub softwareLine : List ℕ
@@ -33,3 +38,8 @@ sizeLine width height = minusY ++ space ∷ (digits height ++ space ∷ (plusX +
 -- the lines, one after another
 unfoldable pub written : ℕ → ℕ → List ℕ
 written width height = radianceLine ++ (softwareLine ++ (formatLine ++ (emptyLine ++ sizeLine width height)))
+
+-- what its lines say: a colour kind by the document reading, and nothing by the crate reading
+abbrev pub writtenSaid : Reading → Said
+writtenSaid Crate = nothing
+writtenSaid Document = coloured nothing Rgbe

@@ -1,6 +1,11 @@
 // The header of a Radiance picture: read, and as it is written.
 mod written;
 
+use stated::Colour;
+use stated::Exposure;
+use stated::Said;
+use stated::SaidAnswer;
+use steps::Reading;
 use steps::refusal;
 use steps::refusal::Refusal;
 use words::fields;
@@ -24,6 +29,8 @@ pub struct Head {
     pub width: usize,
     pub height: usize,
     pub taken: usize,
+    pub colour: Colour,
+    pub exposure: Exposure,
 }
 
 impl Head {
@@ -51,13 +58,14 @@ fn refused(number: u8) -> HeadAnswer
 
 // The checks 3 to 5 of the fields of height and width.
 fn read_sizes(
+    said: Said,
     height: &[u8],
     width: &[u8],
     taken: usize,
     widest: usize,
     highest: usize,
 ) -> HeadAnswer
-    ensures { λ r. ⌜ paperOf r ≡ sizesAnswer (now (height .entry)) (now (width .entry)) taken widest highest ⌝ }
+    ensures { λ r. ⌜ paperOf r ≡ sizesAnswer said (now (height .entry)) (now (width .entry)) taken widest highest ⌝ }
 {
     let Size::Number(h) = sizes::size_of(height) else {
         return refused(refusal::SIZE);
@@ -71,17 +79,21 @@ fn read_sizes(
     if steps::least(widest, 65535) < w {
         return refused(refusal::TOO_WIDE);
     }
+    let colour = said.colour;
+    let exposure = said.exposure;
     HeadAnswer::Read(Head {
         width: w,
         height: h,
         taken,
+        colour,
+        exposure,
     })
 }
 
 // The four fields from `at` on, and their checks.
-fn read_fields(bytes: &[u8], at: usize, widest: usize, highest: usize) -> HeadAnswer
+fn read_fields(said: Said, bytes: &[u8], at: usize, widest: usize, highest: usize) -> HeadAnswer
     requires { ⌜ at ≤ length (now bytes) ⌝ }
-    ensures { λ r. ⌜ paperOf r ≡ fieldsAnswer (fieldsAt (now (bytes .entry)) at) widest highest ⌝ }
+    ensures { λ r. ⌜ paperOf r ≡ fieldsAnswer said (fieldsAt (now (bytes .entry)) at) widest highest ⌝ }
 {
     let a = lines::past(bytes, at, 32);
     let b = lines::past(bytes, a, 32);
@@ -91,19 +103,25 @@ fn read_fields(bytes: &[u8], at: usize, widest: usize, highest: usize) -> HeadAn
     let fourth = fields::trim(&bytes[c..d]);
     let axes = fields::axes_of(fields::trim(&bytes[at..a]), fields::trim(&bytes[b..c]));
     match axes {
-        Axes::HeightFirst => read_sizes(second, fourth, d, widest, highest),
-        Axes::WidthFirst => read_sizes(fourth, second, d, widest, highest),
+        Axes::HeightFirst => read_sizes(said, second, fourth, d, widest, highest),
+        Axes::WidthFirst => read_sizes(said, fourth, second, d, widest, highest),
         Axes::Other => refused(refusal::AXES),
     }
 }
 
 // The header at the start of the bytes.
-pub fn read(bytes: &[u8], widest: usize, highest: usize) -> HeadAnswer
-    ensures { λ r. ⌜ HeaderPromise (now (bytes .entry)) widest highest r ⌝ }
+pub fn read(reading: Reading, bytes: &[u8], widest: usize, highest: usize) -> HeadAnswer
+    ensures { λ r. ⌜ HeaderPromise reading (now (bytes .entry)) widest highest r ⌝ }
 {
     let at = lines::past(bytes, 0, 10);
     if lines::is_first(&bytes[0..at]) {
-        return read_fields(bytes, lines::lines_end(bytes, at), widest, highest);
+        let answer = stated::read(reading, bytes, at);
+        return match answer {
+            SaidAnswer::Heard(said) => {
+                read_fields(said, bytes, lines::lines_end(bytes, at), widest, highest)
+            }
+            SaidAnswer::Refused { number } => refused(number),
+        };
     }
     refused(refusal::FIRST_LINE)
 }

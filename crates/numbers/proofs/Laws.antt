@@ -1,2 +1,3 @@
--- The laws of the definitions in `specs/`, a file for each of its files.
+-- The laws of the definitions in `specs/`: of answers as they are put, and of a header's values.
 pub mod Numbers
+pub mod Values

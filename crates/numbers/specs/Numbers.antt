@@ -1,12 +1,18 @@
 -- The answer of any call as eight numbers: the number of the refusal or 0, its place or 0, and six values, each 0 where there is none.
 use Prim.Native.Nat.{ℕ}
 use mathlib.Core.List.{List, [], _∷_}
+use lib.Ieee.{Float, binary32, eq, toBits}
+use Rattle.steps.specs.Loop.{pick}
 use Rattle.steps.specs.Answer.{Answer, done, refused, refuse}
 use Rattle.steps.specs.declared.amount.Amount.{Amount}
 use Rattle.steps.specs.declared.amount.Amount.the-variants.{Number, None}
+use Rattle.stated.specs.declared.Colour.{Colour}
+use Rattle.stated.specs.declared.Colour.the-variants as colour
+use Rattle.stated.specs.declared.Exposure.{Exposure}
+use Rattle.stated.specs.declared.Exposure.the-variants as exposure
 use Rattle.header.specs.declared.Head.{Head}
 
--- what a call that does not refuse returns, as six numbers; colour, exposure and orientation are 0 so far
+-- what a call that does not refuse returns, as six numbers; orientation is 0 so far
 pub record Values : Type 0 where
   pub width : ℕ
   pub height : ℕ
@@ -15,9 +21,31 @@ pub record Values : Type 0 where
   pub exposure : ℕ
   pub orientation : ℕ
 
--- of a header or a file read: width, height, and the count of bytes taken
-abbrev pub sizes : Head → Values
-sizes head = record { width = head .width; height = head .height; taken = head .taken; colour = 0; exposure = 0; orientation = 0 }
+-- the colour kind
+abbrev pub colourOf : Colour → ℕ
+colourOf colour.NotStated = 0
+colourOf colour.Rgbe = 1
+colourOf colour.Xyze = 2
+
+-- the bit pattern of a number, and 0 for what is none
+unfoldable pub patternOf : Float → ℕ
+patternOf x = pick (eq x x) (toBits binary32 x) 0
+
+-- the exposure: its bit pattern, which is not 0, since no header states 0
+abbrev pub exposureOf : Exposure → ℕ
+exposureOf (exposure.Stated x) = patternOf x
+exposureOf exposure.NotStated = 0
+
+-- of a header or a file read: width, height, the count of bytes taken, colour and exposure
+abbrev pub headValues : Head → Values
+headValues head = record {
+  width = head .width;
+  height = head .height;
+  taken = head .taken;
+  colour = colourOf (head .colour);
+  exposure = exposureOf (head .exposure);
+  orientation = 0;
+}
 
 -- of a call that returns one number: it is a count, and stands where the count of bytes taken does
 abbrev pub single : ℕ → Values

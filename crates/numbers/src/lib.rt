@@ -2,6 +2,8 @@
 use header::Head;
 use header::HeadAnswer;
 use reader::ReadAnswer;
+use stated::Colour;
+use stated::Exposure;
 use steps::amount::Amount;
 use steps::refusal::Refusal;
 use writer::WriteAnswer;
@@ -10,23 +12,55 @@ ghost use Rattle.steps.specs.Answer.{done};
 ghost use Rattle.header.specs.Head as header;
 ghost use Rattle.reader.specs.Read as reader;
 ghost use Rattle.writer.specs.Write as writer;
-ghost use Rattle.numbers.specs.Numbers.{sizes, single, stopped, numbers, counted};
+ghost use Rattle.numbers.specs.Numbers.{colourOf, patternOf, exposureOf, headValues, single, stopped, numbers, counted};
 
 // That there is no such number: it passes 2^64 - 1.
 const NONE: u64 = 255;
 
-// Width, height and the count of bytes taken.
-fn sizes(answer: &mut [u64; 8], head: Head)
-    ensures { λ _. ⌜ now (answer .exit) ≡ numbers sizes (done head) ⌝ }
+// The colour kind as a number.
+fn colour_of(colour: Colour) -> u64
+    ensures { λ r. ⌜ r ≡ colourOf colour ⌝ }
 {
+    match colour {
+        Colour::NotStated => 0,
+        Colour::Rgbe => 1,
+        Colour::Xyze => 2,
+    }
+}
+
+// The bit pattern of a number, and 0 for what is none.
+fn pattern_of(x: f32) -> u32
+    ensures { λ r. ⌜ r ≡ patternOf x ⌝ }
+{
+    if x == x { f32::to_bits(x) } else { 0 }
+}
+
+// The exposure as a number.
+fn exposure_of(exposure: Exposure) -> u64
+    ensures { λ r. ⌜ r ≡ exposureOf exposure ⌝ }
+{
+    match exposure {
+        Exposure::Stated(x) => pattern_of(x) as u64,
+        Exposure::NotStated => 0,
+    }
+}
+
+// What a header says, and the count of bytes taken.
+fn head_values(answer: &mut [u64; 8], head: Head)
+    ensures { λ _. ⌜ now (answer .exit) ≡ numbers headValues (done head) ⌝ }
+{
+    let kind = head.colour;
+    let factor = head.exposure;
+    let colour = colour_of(kind);
+    let exposure = exposure_of(factor);
     *answer = [
         0,
         0,
         head.width as u64,
         head.height as u64,
         head.taken as u64,
-        0,
-        0,
+        colour,
+        exposure,
         0,
     ];
 }
@@ -56,20 +90,20 @@ fn refused(answer: &mut [u64; 8], refusal: Refusal)
 
 // What reading a header answers.
 pub fn head(answer: &mut [u64; 8], told: HeadAnswer)
-    ensures { λ _. ⌜ now (answer .exit) ≡ numbers sizes (header.paperOf told) ⌝ }
+    ensures { λ _. ⌜ now (answer .exit) ≡ numbers headValues (header.paperOf told) ⌝ }
 {
     match told {
-        HeadAnswer::Read(head) => sizes(answer, head),
+        HeadAnswer::Read(head) => head_values(answer, head),
         HeadAnswer::Refused(refusal) => refused(answer, refusal),
     }
 }
 
 // What reading a file answers.
 pub fn read(answer: &mut [u64; 8], told: ReadAnswer)
-    ensures { λ _. ⌜ now (answer .exit) ≡ numbers sizes (reader.paperOf told) ⌝ }
+    ensures { λ _. ⌜ now (answer .exit) ≡ numbers headValues (reader.paperOf told) ⌝ }
 {
     match told {
-        ReadAnswer::Done(head) => sizes(answer, head),
+        ReadAnswer::Done(head) => head_values(answer, head),
         ReadAnswer::Refused(refusal) => refused(answer, refusal),
     }
 }

@@ -12,7 +12,7 @@ use Rattle.steps.specs.declared.Reading.{Reading}
 use Rattle.steps.specs.declared.Reading.the-variants.{Crate, Document}
 use Rattle.pixel.specs.Rgbe.{unitsOf, pixelOf}
 use Rattle.header.specs.declared.Head.{Head}
-use Rattle.header.specs.Head.{headChecks, fieldsOf, headOf, taking}
+use Rattle.header.specs.Head.{headChecks, headIn, taking}
 use Rattle.rows_read.specs.Row.{RowRule, rowOf}
 use Rattle.reader.specs.Samples.{SampleRule}
 use Rattle.reader.specs.Frame.{Left, storedOf, cleared, rowsOf}
@@ -38,11 +38,11 @@ answerOf head (refused number place) = refused number place
 abbrev pub framed : Head → Left → Answer Head × List Float × List ℕ
 framed head left = (answerOf head (left .0), left .1, left .2)
 
--- the checks 1 to 8 in their order, before anything is written; then the rows
-unfoldable pub readBy : RowRule → SampleRule → List ℕ → ℕ → ℕ → List Float → List ℕ → Answer Head × List Float × List ℕ
-readBy rowRule rule bytes widest highest out store =
-    let head = headOf (fieldsOf bytes) in
-    checked (λ n. (refuse n, out, store)) (headChecks bytes widest highest ++ frameChecks head out store)
+-- the header's checks and 6 to 8 in their order, before anything is written; then the rows
+unfoldable pub readBy : Reading → RowRule → SampleRule → List ℕ → ℕ → ℕ → List Float → List ℕ → Answer Head × List Float × List ℕ
+readBy reading rowRule rule bytes widest highest out store =
+    let head = headIn reading bytes in
+    checked (λ n. (refuse n, out, store)) (headChecks reading bytes widest highest ++ frameChecks head out store)
     (framed head (rowsOf rowRule rule bytes (storedOf head) (head .taken) out (cleared (storedOf head .long) store)))
 
 -- the paper's answer, for each case of the call's answer
@@ -50,10 +50,10 @@ abbrev pub paperOf : ReadAnswer → Answer Head
 paperOf (read.Done head) = done head
 paperOf (read.Refused refusal) = refusalOf refusal
 
--- a call that reads by these rules: its answer, the output and the row store afterwards
-abbrev pub ReadPromiseBy : RowRule → SampleRule → List ℕ → ℕ → ℕ → List Float → List ℕ → ReadAnswer → List Float → List ℕ → Type 0
-ReadPromiseBy rowRule rule bytes widest highest out store answer out′ store′ =
-    (paperOf answer, out′, store′) ≡ readBy rowRule rule bytes widest highest out store
+-- a call that reads the header by this reading, and the rows by these rules: its answer, the output and the row store afterwards
+abbrev pub ReadPromiseBy : Reading → RowRule → SampleRule → List ℕ → ℕ → ℕ → List Float → List ℕ → ReadAnswer → List Float → List ℕ → Type 0
+ReadPromiseBy reading rowRule rule bytes widest highest out store answer out′ store′ =
+    (paperOf answer, out′, store′) ≡ readBy reading rowRule rule bytes widest highest out store
 
 -- ---- How many samples a frame has: "none" exactly where the Rust's product passes 2^64 - 1
 
@@ -72,8 +72,8 @@ abbrev pub documentPixel : SampleRule
 documentPixel = pixelBy Document
 
 abbrev pub readOf : Reading → List ℕ → ℕ → ℕ → List Float → List ℕ → Answer Head × List Float × List ℕ
-readOf reading = readBy (rowOf reading) (pixelBy reading)
+readOf reading = readBy reading (rowOf reading) (pixelBy reading)
 
 -- what `reader::read` promises
 abbrev pub ReadPromise : Reading → List ℕ → ℕ → ℕ → List Float → List ℕ → ReadAnswer → List Float → List ℕ → Type 0
-ReadPromise reading = ReadPromiseBy (rowOf reading) (pixelBy reading)
+ReadPromise reading = ReadPromiseBy reading (rowOf reading) (pixelBy reading)

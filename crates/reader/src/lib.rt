@@ -18,7 +18,7 @@ ghost use Rattle.reader.specs.Frame.{along, storedOf, stepOf, rowsOf};
 ghost use Rattle.reader.specs.Read.{outputSize, pixelBy, paperOf, framed, ReadPromise};
 ghost use Rattle.reader.specs.Inner.{frameAnswer};
 
-// What reading a file answers: the sizes and the count of bytes taken, or a refusal.
+// What reading a file answers: what its header says and the count of bytes taken, or a refusal.
 pub enum ReadAnswer {
     Done(Head),
     Refused(Refusal),
@@ -123,7 +123,7 @@ pub fn read(
 ) -> ReadAnswer
     ensures { λ r. ⌜ ReadPromise reading (now (bytes .entry)) widest highest (now (out .entry)) (now (store .entry)) r (now (out .exit)) (now (store .exit)) ⌝ }
 {
-    let h = header::read(bytes, widest, highest);
+    let h = header::read(reading, bytes, widest, highest);
     match h {
         HeadAnswer::Read(head) => read_frame(reading, bytes, head, out, store),
         HeadAnswer::Refused(refusal) => ReadAnswer::Refused(refusal),

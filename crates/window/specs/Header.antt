@@ -8,6 +8,7 @@ use lib.ListN.{length}
 use lib.Dec.{leb, eqb}
 use Rattle.steps.specs.Loop.{pick}
 use Rattle.steps.specs.Answer.{Answer, done, refused}
+use Rattle.steps.specs.declared.Reading.{Reading}
 use Rattle.steps.specs.declared.refusal.Refusal.{Refusal}
 use Rattle.header.specs.declared.Head.{Head}
 use Rattle.header.specs.Head.{fieldsOf, headerOf}
@@ -31,8 +32,8 @@ headPart more part (done head) = pick (more && leb (length part) (head .taken)) 
 headPart more part (refused number place) = refusedPart more part (record { number = number; place = place })
 
 -- `window::read_header`
-abbrev pub HeadPromise : List ℕ → Bool → HeadPart → Type 0
-HeadPromise part more answer = answer ≡ headPart more part (headerOf part 65535 65535)
+abbrev pub HeadPromise : Reading → List ℕ → Bool → HeadPart → Type 0
+HeadPromise reading part more answer = answer ≡ headPart more part (headerOf reading part 65535 65535)
 
 -- a header that is read lies in a part of n bytes, and its sizes are within the format's limits
 abbrev pub HeadWithin : ℕ → HeadPart → Type 0

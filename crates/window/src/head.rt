@@ -1,6 +1,7 @@
 // The header of a file of which a part is at hand.
 use header::Head;
 use header::HeadAnswer;
+use steps::Reading;
 use steps::refusal;
 use steps::refusal::Refusal;
 use words::lines;
@@ -75,10 +76,10 @@ fn head_part(part: &[u8], more: bool, answer: HeadAnswer) -> HeadPart
 }
 
 // The header at the start of the part, with no limits but the format's own.
-pub fn read_header(part: &[u8], more: bool) -> HeadPart
-    ensures { λ r. ⌜ HeadPromise (now (part .entry)) more r ⌝ }
+pub fn read_header(reading: Reading, part: &[u8], more: bool) -> HeadPart
+    ensures { λ r. ⌜ HeadPromise reading (now (part .entry)) more r ⌝ }
     ensures { λ r. ⌜ HeadWithin (length (now (part .entry))) r ⌝ }
 {
-    let answer = header::read(part, 65535, 65535);
+    let answer = header::read(reading, part, 65535, 65535);
     head_part(part, more, answer)
 }

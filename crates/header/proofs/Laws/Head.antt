@@ -1,25 +1,32 @@
 -- The laws that proofs use of `specs/Head.antt`, and that two answers which meet the promise of `header::read` are equal.
 use Prim.Native.Nat.{ℕ, _<_, _≤_, min}
 use mathlib.Core.Bool.{Bool, true, false, _&&_}
-use mathlib.Core.List.{List}
+use mathlib.Core.List.{List, _∷_}
 use mathlib.Core.Path.{_≡_, refl, sym, ap, subst, _∙_}
 use native.Mathlib.Omega.{arith}
 use borrow.Author.Tests.{lt-ltb, le-ltb, ltb-false}
 use lib.ListN.{length}
 use Rattle.steps.specs.Loop.{pick}
-use Rattle.steps.specs.Answer.{Answer, refuse, done}
-use Rattle.steps.proofs.Laws.Answer.{passed, callOf, one-answer}
+use Rattle.steps.specs.Answer.{Answer, refuse, refused, done, Check}
+use Rattle.steps.specs.declared.Reading.{Reading}
+use Rattle.steps.proofs.Laws.Answer.{Passed, passed, callOf, one-answer}
 use Rattle.words.specs.Lines.{lineFeed, space, past, between, firstLine, isFirst, linesEnd}
 use Rattle.words.specs.Fields.{Fields, trim, fieldsAt, axesOf}
 use Rattle.words.specs.Sizes.{sizeOf, isSize}
 use Rattle.words.specs.Inner.{sizeAnswer}
 use Rattle.words.proofs.Laws.Lines.{past-within, lines-within}
-use Rattle.header.specs.Head.{head, fieldsOf, heightField, widthField, isOther, headOf, headChecks, headerOf, paperOf, HeaderPromise}
+use Rattle.stated.specs.declared.Said.{Said}
+use Rattle.stated.specs.declared.SaidAnswer.{SaidAnswer}
+use Rattle.stated.specs.declared.SaidAnswer.the-variants as answer
+use Rattle.stated.specs.Said as stated
+use Rattle.stated.specs.Said.{saidBy, faultOf}
+use Rattle.header.specs.Head.{head, fieldsOf, heightField, widthField, isOther, saidIn, fieldChecks, headOf, headIn, headChecks, headerOf, paperOf, HeaderPromise}
 use Rattle.header.specs.Inner.{sizesAnswer, fieldsAnswer}
 use Rattle.words.specs.declared.sizes.Size.{Size}
 use Rattle.words.specs.declared.sizes.Size.the-variants.{Number, NoNumber}
 use Rattle.words.specs.declared.fields.Axes.{Axes}
 use Rattle.words.specs.declared.fields.Axes.the-variants.{HeightFirst, WidthFirst, Other}
+use Rattle.stated.proofs.Laws.Usable.{Above, said-above}
 use Rattle.header.specs.declared.Head.{Head}
 use Rattle.header.specs.declared.HeadAnswer.{HeadAnswer}
 use Rattle.header.specs.declared.HeadAnswer.the-variants.{Read, Refused}
@@ -44,13 +51,13 @@ module _ (field : List ℕ) (s : Size) (is : s ≡ sizeAnswer field) where
 
 -- ---- The sizes
 
-module _ (height width : List ℕ) (taken widest highest : ℕ) (s : Size) (is : s ≡ sizeAnswer height) where
-  pub sizes-no-height : (a : Answer Head) → s ≡ NoNumber → a ≡ refuse 3 → a ≡ sizesAnswer height width taken widest highest
+module _ (said : Said) (height width : List ℕ) (taken widest highest : ℕ) (s : Size) (is : s ≡ sizeAnswer height) where
+  pub sizes-no-height : (a : Answer Head) → s ≡ NoNumber → a ≡ refuse 3 → a ≡ sizesAnswer said height width taken widest highest
   unfolding sizesAnswer
   sizes-no-height a n e = e ∙ simp (no-size height s is _ refl n)
 
   module _ (h : ℕ) (eh : s ≡ Number h) (t : Size) (it : t ≡ sizeAnswer width) where
-    pub sizes-no-width : (a : Answer Head) → t ≡ NoNumber → a ≡ refuse 3 → a ≡ sizesAnswer height width taken widest highest
+    pub sizes-no-width : (a : Answer Head) → t ≡ NoNumber → a ≡ refuse 3 → a ≡ sizesAnswer said height width taken widest highest
     unfolding sizesAnswer
     sizes-no-width a n e = e ∙ simp (is-size height s is h _ refl eh .0, no-size width t it _ refl n)
 
@@ -64,19 +71,19 @@ module _ (height width : List ℕ) (taken widest highest : ℕ) (s : Size) (is :
       width-is : sizeOf width ≡ w
       width-is = is-size width t it w _ refl ew .1
 
-      pub sizes-high : (a : Answer Head) → l < h → a ≡ refuse 4 → a ≡ sizesAnswer height width taken widest highest
+      pub sizes-high : (a : Answer Head) → l < h → a ≡ refuse 4 → a ≡ sizesAnswer said height width taken widest highest
       unfolding sizesAnswer
       sizes-high a over e = let k : min highest 65535 < h = rw (← el) over in e ∙ simp (both, height-is, lt-ltb (min highest 65535) h k)
 
       module _ (fits : h ≤ l) (m : ℕ) (em : m ≡ min widest 65535) where
-        pub sizes-wide : (a : Answer Head) → m < w → a ≡ refuse 5 → a ≡ sizesAnswer height width taken widest highest
+        pub sizes-wide : (a : Answer Head) → m < w → a ≡ refuse 5 → a ≡ sizesAnswer said height width taken widest highest
         unfolding sizesAnswer
         sizes-wide a over e =
             let i : h ≤ min highest 65535 = rw (← el) fits in
             let k : min widest 65535 < w = rw (← em) over in
             e ∙ simp (both, height-is, width-is, le-ltb (min highest 65535) h i, lt-ltb (min widest 65535) w k)
 
-        pub sizes-read : w ≤ m → done (head w h taken) ≡ sizesAnswer height width taken widest highest
+        pub sizes-read : w ≤ m → done (head said w h taken) ≡ sizesAnswer said height width taken widest highest
         unfolding sizesAnswer
         sizes-read under =
             let i : h ≤ min highest 65535 = rw (← el) fits in
@@ -95,35 +102,45 @@ module _ (bytes : List ℕ) (at a b c d : ℕ) (ea : a ≡ past space bytes at) 
   unfolding fieldsAt fields
   fields-are = simp (← ea, ← eb, ← ec, ← ed, ← e1, ← e2, ← e3, ← e4)
 
-  module _ (widest highest : ℕ) (axes : Axes) (is : axes ≡ axesOf first third) (r : Answer Head) where
-    answer-by : fieldsAnswer (fieldsAt bytes at) widest highest ≡ pick (isOther axes) (refuse 2) (sizesAnswer (heightField axes fields) (widthField axes fields) d widest highest)
+  module _ (said : Said) (widest highest : ℕ) (axes : Axes) (is : axes ≡ axesOf first third) (r : Answer Head) where
+    answer-by : fieldsAnswer said (fieldsAt bytes at) widest highest ≡ pick (isOther axes) (refuse 2) (sizesAnswer said (heightField axes fields) (widthField axes fields) d widest highest)
     unfolding fieldsAnswer headOf sizesAnswer fields
     answer-by = rw fields-are (simp (← is))
 
-    pub fields-height : axes ≡ HeightFirst → r ≡ sizesAnswer second fourth d widest highest → r ≡ fieldsAnswer (fieldsAt bytes at) widest highest
+    pub fields-height : axes ≡ HeightFirst → r ≡ sizesAnswer said second fourth d widest highest → r ≡ fieldsAnswer said (fieldsAt bytes at) widest highest
     unfolding fields
     fields-height k e = e ∙ sym (answer-by ∙ simp k)
 
-    pub fields-width : axes ≡ WidthFirst → r ≡ sizesAnswer fourth second d widest highest → r ≡ fieldsAnswer (fieldsAt bytes at) widest highest
+    pub fields-width : axes ≡ WidthFirst → r ≡ sizesAnswer said fourth second d widest highest → r ≡ fieldsAnswer said (fieldsAt bytes at) widest highest
     unfolding fields
     fields-width k e = e ∙ sym (answer-by ∙ simp k)
 
-    pub fields-other : axes ≡ Other → r ≡ refuse 2 → r ≡ fieldsAnswer (fieldsAt bytes at) widest highest
+    pub fields-other : axes ≡ Other → r ≡ refuse 2 → r ≡ fieldsAnswer said (fieldsAt bytes at) widest highest
     fields-other k e = e ∙ sym (answer-by ∙ simp k)
 
 -- ---- The whole header
 
-module _ (bytes : List ℕ) (widest highest at : ℕ) (ea : at ≡ past lineFeed bytes 0) (t : Bool) (is : t ≡ isFirst (between bytes 0 at)) (r : Answer Head) where
+module _ (reading : Reading) (bytes : List ℕ) (widest highest at : ℕ) (ea : at ≡ past lineFeed bytes 0) (t : Bool) (is : t ≡ isFirst (between bytes 0 at)) (r : Answer Head) where
   first-is : isFirst (firstLine bytes) ≡ t
   first-is = ap (λ (n : ℕ). isFirst (between bytes 0 n)) (sym ea) ∙ sym is
 
-  pub header-wrong : t ≡ false → r ≡ refuse 1 → r ≡ headerOf bytes widest highest
+  pub header-wrong : t ≡ false → r ≡ refuse 1 → r ≡ headerOf reading bytes widest highest
   unfolding headerOf headChecks
   header-wrong k e = e ∙ simp (first-is, k)
 
-  pub header-right : (end : ℕ) → t ≡ true → end ≡ linesEnd bytes at → r ≡ fieldsAnswer (fieldsAt bytes end) widest highest → r ≡ headerOf bytes widest highest
-  unfolding headerOf headChecks fieldsAnswer fieldsOf
-  header-right end k l e = e ∙ rw (l, ea) (simp (first-is, k))
+  module _ (k : t ≡ true) (s : SaidAnswer) (es : stated.paperOf s ≡ saidBy reading bytes at) where
+    said-is : saidIn reading bytes ≡ stated.paperOf s
+    unfolding saidIn
+    said-is = ap (saidBy reading bytes) (sym ea) ∙ sym es
+
+    pub header-fault : (number : ℕ) → s ≡ answer.Refused number → r ≡ refuse number → r ≡ headerOf reading bytes widest highest
+    unfolding headerOf headChecks
+    header-fault number l e = e ∙ simp (first-is, k, said-is, l)
+
+    pub header-right : (said : Said) (end : ℕ) → s ≡ answer.Heard said → end ≡ linesEnd bytes at → r ≡ fieldsAnswer said (fieldsAt bytes end) widest highest
+        → r ≡ headerOf reading bytes widest highest
+    unfolding headerOf headChecks fieldsAnswer fieldsOf
+    header-right said end l m e = e ∙ rw (m, ea) (simp (first-is, k, said-is, l))
 
 -- ---- One answer
 
@@ -134,20 +151,36 @@ call-same (Refused refusal) = refl
 by-paper : (a b : HeadAnswer) → paperOf a ≡ paperOf b → a ≡ b
 by-paper = one-answer Read Refused paperOf call-same
 
-pub header-once : (bytes : List ℕ) (widest highest : ℕ) (a b : HeadAnswer) → HeaderPromise bytes widest highest a → HeaderPromise bytes widest highest b → a ≡ b
-header-once bytes widest highest a b p q = by-paper a b (p ∙ sym q)
+pub header-once : (reading : Reading) (bytes : List ℕ) (widest highest : ℕ) (a b : HeadAnswer) → HeaderPromise reading bytes widest highest a → HeaderPromise reading bytes widest highest b → a ≡ b
+header-once reading bytes widest highest a b p q = by-paper a b (p ∙ sym q)
 
 -- ---- A header that is read is within the limits
 
-pub header-limits : (bytes : List ℕ) (widest highest : ℕ) (head : Head) → headerOf bytes widest highest ≡ done head → (head .width ≤ 65535) × (head .height ≤ 65535)
-unfolding headerOf headChecks headOf
-header-limits bytes widest highest head e =
-    let f = fieldsOf bytes in
-    let axes = axesOf (f .first) (f .third) in
-    let both = passed (headChecks bytes widest highest) (headOf f) head e in
-    let high : sizeOf (heightField axes f) ≤ min highest 65535 = ltb-false _ _ (both .0 .1 .1 .1 .0) in
-    let wide : sizeOf (widthField axes f) ≤ min widest 65535 = ltb-false _ _ (both .0 .1 .1 .1 .1 .0) in
-    (subst (λ (x : Head). x .width ≤ 65535) (both .1) (omega arith), subst (λ (x : Head). x .height ≤ 65535) (both .1) (omega arith))
+-- the checks behind that of the lines
+passed-lines : (a : Answer Said) (checks : List Check) → Passed (faultOf a ∷ checks) → Passed checks
+passed-lines (done said) checks p = p .1
+passed-lines (refused number place) checks p = p .1
+
+module _ (reading : Reading) (bytes : List ℕ) (widest highest : ℕ) (head : Head) (e : headerOf reading bytes widest highest ≡ done head) where
+  pub header-passed : Passed (headChecks reading bytes widest highest) × (headIn reading bytes ≡ head)
+  unfolding headerOf
+  header-passed = passed (headChecks reading bytes widest highest) (headIn reading bytes) head e
+
+  pub header-limits : (head .width ≤ 65535) × (head .height ≤ 65535)
+  unfolding headChecks headOf
+  header-limits =
+      let f = fieldsOf bytes in
+      let axes = axesOf (f .first) (f .third) in
+      let both = header-passed in
+      let sizes = passed-lines (saidIn reading bytes) (fieldChecks axes f widest highest) (both .0 .1) in
+      let high : sizeOf (heightField axes f) ≤ min highest 65535 = ltb-false _ _ (sizes .1 .1 .0) in
+      let wide : sizeOf (widthField axes f) ≤ min widest 65535 = ltb-false _ _ (sizes .1 .1 .1 .0) in
+      (subst (λ (x : Head). x .width ≤ 65535) (both .1) (omega arith), subst (λ (x : Head). x .height ≤ 65535) (both .1) (omega arith))
+
+  -- the exposure that it states is above zero
+  pub header-above : Above (head .exposure)
+  unfolding headOf saidIn
+  header-above = subst (λ (h : Head). Above (h .exposure)) (header-passed .1) (said-above reading bytes (past lineFeed bytes 0))
 
 -- ---- and lies in the bytes
 
@@ -156,9 +189,10 @@ unfolding fieldsOf fieldsAt
 taken-within bytes =
     past-within lineFeed bytes _ (past-within space bytes _ (past-within space bytes _ (past-within space bytes _ (lines-within bytes _ (past-within lineFeed bytes 0 (omega arith))))))
 
-pub header-taken : (bytes : List ℕ) (widest highest : ℕ) (head : Head) → headerOf bytes widest highest ≡ done head → fieldsOf bytes .taken ≡ head .taken
-unfolding headerOf headOf
-header-taken bytes widest highest head e = ap (λ (h : Head). h .taken) (passed (headChecks bytes widest highest) (headOf (fieldsOf bytes)) head e .1)
+module _ (reading : Reading) (bytes : List ℕ) (widest highest : ℕ) (head : Head) (e : headerOf reading bytes widest highest ≡ done head) where
+  pub header-taken : fieldsOf bytes .taken ≡ head .taken
+  unfolding headOf
+  header-taken = ap (λ (h : Head). h .taken) (header-passed reading bytes widest highest head e .1)
 
-pub header-within : (bytes : List ℕ) (widest highest : ℕ) (head : Head) → headerOf bytes widest highest ≡ done head → head .taken ≤ length bytes
-header-within bytes widest highest head e = rw (← header-taken bytes widest highest head e) (taken-within bytes)
+  pub header-within : head .taken ≤ length bytes
+  header-within = rw (← header-taken) (taken-within bytes)

@@ -1,7 +1,7 @@
--- `numbers::head` meets its contract: the sizes are put, or the refusal.
+-- `numbers::head` meets its contract: the values of the header are put, or the refusal.
 use borrow.Author.Needs.{needs}
 use Rattle.header.specs.Head.{paperOf}
-use Rattle.numbers.specs.Numbers.{sizes}
+use Rattle.numbers.specs.Numbers.{headValues}
 use Rattle.numbers.proofs.Laws.Numbers.{in-case}
 use Rattle.numbers.proofs.head.Statement.{statement}
 use Rattle.numbers.proofs.head.Tie as tie
@@ -9,8 +9,8 @@ use Rattle.numbers.proofs.head.Tie as tie
 enum-known-told : tie.Need-enum-known-told
 enum-known-told c = search needs
 
-sizes-requires : tie.Need-sizes-requires
-sizes-requires c κs = search needs
+head-values-requires : tie.Need-head-values-requires
+head-values-requires c κs = search needs
 
 enum-known-told-2 : tie.Need-enum-known-told-2
 enum-known-told-2 c = search needs
@@ -19,7 +19,7 @@ refused-requires : tie.Need-refused-requires
 refused-requires c κs = search needs
 
 returns : tie.Need-returns
-returns c = search (in-case sizes paperOf)
+returns c = search (in-case headValues paperOf)
 
 returns-2 : tie.Need-returns-2
 returns-2 c = search needs
@@ -27,4 +27,4 @@ returns-2 c = search needs
 pub head-spec : {M : Type 1} → statement M
 head-spec =
     tie.close
-    (tie.spec enum-known-told sizes-requires enum-known-told-2 refused-requires returns returns-2)
+    (tie.spec enum-known-told head-values-requires enum-known-told-2 refused-requires returns returns-2)

@@ -12,7 +12,7 @@ use Rattle.steps.proofs.Laws.Loop.{Runs}
 use Rattle.steps.specs.declared.refusal.Refusal.{Refusal}
 use Rattle.steps.proofs.Laws.Answer.{passed, pass, failed, checked-append, callOf, one-answer}
 use Rattle.header.specs.Head as header
-use Rattle.header.specs.Head.{HeaderPromise, headerOf, headChecks, headOf, fieldsOf, taking}
+use Rattle.header.specs.Head.{HeaderPromise, headerOf, headChecks, headIn, taking}
 use Rattle.header.specs.declared.Head.{Head}
 use Rattle.header.specs.declared.HeadAnswer.{HeadAnswer}
 use Rattle.header.specs.declared.HeadAnswer.the-variants.{Read, Refused}
@@ -92,29 +92,29 @@ module _ (rowRule : RowRule) (rule : SampleRule) (bytes : List ℕ) (head : Head
 
 -- ---- The whole file
 
-module _ (rowRule : RowRule) (rule : SampleRule) (bytes : List ℕ) (widest highest : ℕ) (out : List Float) (store : List ℕ) (h : HeadAnswer) (is : HeaderPromise bytes widest highest h) where
-  split : readBy rowRule rule bytes widest highest out store
-      ≡ checked (λ n. (refuse n, out, store)) (headChecks bytes widest highest) (frameAnswer rowRule rule bytes (headOf (fieldsOf bytes)) out store)
+module _ (reading : Reading) (rowRule : RowRule) (rule : SampleRule) (bytes : List ℕ) (widest highest : ℕ) (out : List Float) (store : List ℕ) (h : HeadAnswer) (is : HeaderPromise reading bytes widest highest h) where
+  split : readBy reading rowRule rule bytes widest highest out store
+      ≡ checked (λ n. (refuse n, out, store)) (headChecks reading bytes widest highest) (frameAnswer rowRule rule bytes (headIn reading bytes) out store)
   unfolding readBy frameAnswer
-  split = checked-append (λ n. (refuse n, out, store)) (headChecks bytes widest highest) _ _
+  split = checked-append (λ n. (refuse n, out, store)) (headChecks reading bytes widest highest) _ _
 
-  pub read-refused : (refusal : Refusal) → h ≡ Refused refusal → (refusalOf refusal, out, store) ≡ readBy rowRule rule bytes widest highest out store
+  pub read-refused : (refusal : Refusal) → h ≡ Refused refusal → (refusalOf refusal, out, store) ≡ readBy reading rowRule rule bytes widest highest out store
   unfolding headerOf
   read-refused refusal k =
-      let both = failed (λ n. (refuse n, out, store)) (headChecks bytes widest highest) (headOf (fieldsOf bytes)) (frameAnswer rowRule rule bytes (headOf (fieldsOf bytes)) out store)
+      let both = failed (λ n. (refuse n, out, store)) (headChecks reading bytes widest highest) (headIn reading bytes) (frameAnswer rowRule rule bytes (headIn reading bytes) out store)
       (refusal .number) (refusal .place) (sym is ∙ ap header.paperOf k) in
       ap (λ (place : ℕ). (refused (refusal .number) place, out, store)) (both .0) ∙ sym (split ∙ both .1)
 
   pub read-frame : (head : Head) (a : Answer Head × List Float × List ℕ) → h ≡ Read head → a ≡ frameAnswer rowRule rule bytes head out store
-      → a ≡ readBy rowRule rule bytes widest highest out store
+      → a ≡ readBy reading rowRule rule bytes widest highest out store
   unfolding headerOf
   read-frame head a k e =
-      let both = passed (headChecks bytes widest highest) (headOf (fieldsOf bytes)) head (sym is ∙ ap header.paperOf k) in
-      e ∙ ap (λ (x : Head). frameAnswer rowRule rule bytes x out store) (sym (both .1)) ∙ sym (split ∙ pass (λ n. (refuse n, out, store)) (headChecks bytes widest highest) _ (both .0))
+      let both = passed (headChecks reading bytes widest highest) (headIn reading bytes) head (sym is ∙ ap header.paperOf k) in
+      e ∙ ap (λ (x : Head). frameAnswer rowRule rule bytes x out store) (sym (both .1)) ∙ sym (split ∙ pass (λ n. (refuse n, out, store)) (headChecks reading bytes widest highest) _ (both .0))
 
-pub read-limits : (bytes : List ℕ) (widest highest : ℕ) (h : HeadAnswer) (head : Head) → HeaderPromise bytes widest highest h → h ≡ Read head
+pub read-limits : (reading : Reading) (bytes : List ℕ) (widest highest : ℕ) (h : HeadAnswer) (head : Head) → HeaderPromise reading bytes widest highest h → h ≡ Read head
     → (head .width ≤ 65535) × (head .height ≤ 65535)
-read-limits bytes widest highest h head is k = header-limits bytes widest highest head (sym is ∙ ap header.paperOf k)
+read-limits reading bytes widest highest h head is k = header-limits reading bytes widest highest head (sym is ∙ ap header.paperOf k)
 
 -- ---- One answer
 
@@ -125,13 +125,13 @@ call-same (read.Refused refusal) = refl
 by-paper : (a b : ReadAnswer) → paperOf a ≡ paperOf b → a ≡ b
 by-paper = one-answer read.Done read.Refused paperOf call-same
 
--- two answers that meet the promise of a reader by the same rules are equal
-pub read-once-by : (rowRule : RowRule) (rule : SampleRule) (bytes : List ℕ) (widest highest : ℕ) (out : List Float) (store : List ℕ) (a b : ReadAnswer) (o o′ : List Float) (s s′ : List ℕ)
-    → ReadPromiseBy rowRule rule bytes widest highest out store a o s → ReadPromiseBy rowRule rule bytes widest highest out store b o′ s′ → (a ≡ b) × (o ≡ o′) × (s ≡ s′)
-read-once-by rowRule rule bytes widest highest out store a b o o′ s s′ p q =
+-- two answers that meet the promise of a reader by the same reading and rules are equal
+pub read-once-by : (reading : Reading) (rowRule : RowRule) (rule : SampleRule) (bytes : List ℕ) (widest highest : ℕ) (out : List Float) (store : List ℕ) (a b : ReadAnswer) (o o′ : List Float) (s s′ : List ℕ)
+    → ReadPromiseBy reading rowRule rule bytes widest highest out store a o s → ReadPromiseBy reading rowRule rule bytes widest highest out store b o′ s′ → (a ≡ b) × (o ≡ o′) × (s ≡ s′)
+read-once-by reading rowRule rule bytes widest highest out store a b o o′ s s′ p q =
     let e = p ∙ sym q in
     (by-paper a b (ap (λ (z : Answer Head × List Float × List ℕ). z .0) e), ap (λ (z : Answer Head × List Float × List ℕ). z .1) e, ap (λ (z : Answer Head × List Float × List ℕ). z .2) e)
 
 pub read-once : (reading : Reading) (bytes : List ℕ) (widest highest : ℕ) (out : List Float) (store : List ℕ) (a b : ReadAnswer) (o o′ : List Float) (s s′ : List ℕ)
     → ReadPromise reading bytes widest highest out store a o s → ReadPromise reading bytes widest highest out store b o′ s′ → (a ≡ b) × (o ≡ o′) × (s ≡ s′)
-read-once reading = read-once-by (rowOf reading) (pixelBy reading)
+read-once reading = read-once-by reading (rowOf reading) (pixelBy reading)

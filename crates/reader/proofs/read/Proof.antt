@@ -11,7 +11,7 @@ enum-known-h : tie.Need-enum-known-h
 enum-known-h c = search needs
 
 read-frame-requires : tie.Need-read-frame-requires
-read-frame-requires c κs = read-limits _ _ _ _ _ (c .before .before .before .before .before .read .ensures) (c .before .before .before .h .given .1)
+read-frame-requires c κs = read-limits _ _ _ _ _ _ (c .before .before .before .before .before .read .ensures) (c .before .before .before .h .given .1)
 
 enum-known-h-2 : tie.Need-enum-known-h-2
 enum-known-h-2 c = search needs

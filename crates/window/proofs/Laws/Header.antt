@@ -10,6 +10,7 @@ use borrow.Author.Tests.{eq-eqb, ne-eqb, eqb-true, lt-leb, leb-true, leb-false, 
 use lib.ListN.{length, getD, length-append}
 use lib.Dec.{eqb, leb}
 use Rattle.steps.specs.Answer.{Answer, done, refused, refusalOf}
+use Rattle.steps.specs.declared.Reading.{Reading}
 use Rattle.steps.specs.declared.refusal.Refusal.{Refusal}
 use Rattle.steps.proofs.Laws.Turns.{by-test, and-left, and-right}
 use Rattle.words.specs.Lines.{lineFeed, space, past, linesEnd}
@@ -115,68 +116,68 @@ refused-within : (n : ℕ) (more : Bool) (part : List ℕ) (r : Refusal) → Hea
 unfolding refusedPart
 refused-within n more part r = by-test (HeadWithin n) (eqb (r .number) 1 && leb 11 (length part)) (λ _. tt) (λ _. by-test (HeadWithin n) (more && not (endsInside part)) (λ _. tt) (λ _. tt))
 
-answer-within : (part : List ℕ) (more : Bool) (a : Answer Head) → a ≡ headerOf part 65535 65535 → HeadWithin (length part) (headPart more part a)
+answer-within : (reading : Reading) (part : List ℕ) (more : Bool) (a : Answer Head) → a ≡ headerOf reading part 65535 65535 → HeadWithin (length part) (headPart more part a)
 unfolding headPart
-answer-within part more (done head) e =
+answer-within reading part more (done head) e =
     by-test (HeadWithin (length part)) (more && leb (length part) (head .taken)) (λ _. tt)
-    (λ _. let l = header-limits part 65535 65535 head (sym e) in (header-within part 65535 65535 head (sym e), l .0, l .1))
-answer-within part more (refused number place) e = refused-within (length part) more part _
+    (λ _. let l = header-limits reading part 65535 65535 head (sym e) in (header-within reading part 65535 65535 head (sym e), l .0, l .1))
+answer-within reading part more (refused number place) e = refused-within (length part) more part _
 
-module _ (part : List ℕ) (more : Bool) (a : HeadAnswer) (p : HeadPart) (ea : paperOf a ≡ headerOf part 65535 65535) (e : p ≡ headPart more part (paperOf a)) where
-  pub head-is : p ≡ headPart more part (headerOf part 65535 65535)
+module _ (reading : Reading) (part : List ℕ) (more : Bool) (a : HeadAnswer) (p : HeadPart) (ea : paperOf a ≡ headerOf reading part 65535 65535) (e : p ≡ headPart more part (paperOf a)) where
+  pub head-is : p ≡ headPart more part (headerOf reading part 65535 65535)
   head-is = rw (← ea) e
 
   pub head-within : HeadWithin (length part) p
-  head-within = rw e (answer-within part more (paperOf a) ea)
+  head-within = rw e (answer-within reading part more (paperOf a) ea)
 
 -- ---- What a part says of the header holds of the whole file
 
 -- the bytes answer what a part says
-abbrev Answers : List ℕ → HeadPart → Type 0
-Answers bytes (Read head) = headerOf bytes 65535 65535 ≡ done head
-Answers bytes (Refused r) = headerOf bytes 65535 65535 ≡ refusalOf r
-Answers bytes Long = Unit {0}
+abbrev Answers : Reading → List ℕ → HeadPart → Type 0
+Answers reading bytes (Read head) = headerOf reading bytes 65535 65535 ≡ done head
+Answers reading bytes (Refused r) = headerOf reading bytes 65535 65535 ≡ refusalOf r
+Answers reading bytes Long = Unit {0}
 
-module _ (part rest : List ℕ) where
+module _ (reading : Reading) (part rest : List ℕ) where
   -- a header that ends before the part does
-  read-whole : fieldsOf part .taken < length part → headerOf (part ++ rest) 65535 65535 ≡ headerOf part 65535 65535
+  read-whole : fieldsOf part .taken < length part → headerOf reading (part ++ rest) 65535 65535 ≡ headerOf reading part 65535 65535
   read-whole h =
       let inside : Inside (fieldsOf (part ++ []) .taken) part [] = rw (append-nil part) (omega arith, h) in
-      header-rest part [] rest 65535 65535 inside ∙ rw (append-nil part)
+      header-rest part [] rest reading 65535 65535 inside ∙ rw (append-nil part)
 
   -- one that ends inside the part
-  ended-whole : endsInside part ≡ true → headerOf (part ++ rest) 65535 65535 ≡ headerOf part 65535 65535
+  ended-whole : endsInside part ≡ true → headerOf reading (part ++ rest) 65535 65535 ≡ headerOf reading part 65535 65535
   unfolding endsInside
   ended-whole t =
       let l = leb-true _ _ t in
       let inside : Inside (fieldsOf (part ++ 0 ∷ []) .taken) part (0 ∷ []) = (l, omega (arith, length-append part (0 ∷ []))) in
-      let same : headerOf (part ++ []) 65535 65535 ≡ headerOf part 65535 65535 = rw (append-nil part) in
-      header-rest part (0 ∷ []) rest 65535 65535 inside ∙ sym (header-rest part (0 ∷ []) [] 65535 65535 inside) ∙ same
+      let same : headerOf reading (part ++ []) 65535 65535 ≡ headerOf reading part 65535 65535 = rw (append-nil part) in
+      header-rest part (0 ∷ []) rest reading 65535 65535 inside ∙ sym (header-rest part (0 ∷ []) [] reading 65535 65535 inside) ∙ same
 
   -- one whose first line is wrong
-  wrong-whole : (number place : ℕ) → headerOf part 65535 65535 ≡ refused number place → (eqb number 1 && leb 11 (length part)) ≡ true
-      → headerOf (part ++ rest) 65535 65535 ≡ refused number place
+  wrong-whole : (number place : ℕ) → headerOf reading part 65535 65535 ≡ refused number place → (eqb number 1 && leb 11 (length part)) ≡ true
+      → headerOf reading (part ++ rest) 65535 65535 ≡ refused number place
   wrong-whole number place e t =
       let one : number ≡ 1 = eqb-true _ _ (and-left (eqb number 1) _ t) in
-      rw one (wrong-line part rest 65535 65535 place (leb-true _ _ (and-right (eqb number 1) _ t)) (rw (← one) e))
+      rw one (wrong-line reading part rest 65535 65535 place (leb-true _ _ (and-right (eqb number 1) _ t)) (rw (← one) e))
 
-  answers : (more : Bool) → Goes more rest → (a : Answer Head) → headerOf part 65535 65535 ≡ a → Answers (part ++ rest) (headPart more part a)
+  answers : (more : Bool) → Goes more rest → (a : Answer Head) → headerOf reading part 65535 65535 ≡ a → Answers reading (part ++ rest) (headPart more part a)
   unfolding headPart refusedPart
   answers false g (done head) e = rw (g, append-nil part) e
   answers false g (refused number place) e =
-      by-test (Answers (part ++ rest)) (eqb number 1 && leb 11 (length part)) (λ _. rw (g, append-nil part) e) (λ _. rw (g, append-nil part) e)
+      by-test (Answers reading (part ++ rest)) (eqb number 1 && leb 11 (length part)) (λ _. rw (g, append-nil part) e) (λ _. rw (g, append-nil part) e)
   answers true g (done head) e =
-      by-test (Answers (part ++ rest)) (leb (length part) (head .taken)) (λ _. tt)
-      (λ t. read-whole (rw (header-taken part 65535 65535 head e) (leb-false _ _ t)) ∙ e)
+      by-test (Answers reading (part ++ rest)) (leb (length part) (head .taken)) (λ _. tt)
+      (λ t. read-whole (rw (header-taken reading part 65535 65535 head e) (leb-false _ _ t)) ∙ e)
   answers true g (refused number place) e =
-      by-test (Answers (part ++ rest)) (eqb number 1 && leb 11 (length part)) (wrong-whole number place e)
-      (λ _. by-test (Answers (part ++ rest)) (not (endsInside part)) (λ _. tt) (λ t. ended-whole (not-false _ t) ∙ e))
+      by-test (Answers reading (part ++ rest)) (eqb number 1 && leb 11 (length part)) (wrong-whole number place e)
+      (λ _. by-test (Answers reading (part ++ rest)) (not (endsInside part)) (λ _. tt) (λ t. ended-whole (not-false _ t) ∙ e))
 
   module _ (more : Bool) (g : Goes more rest) where
     -- a header that is read in the part is the file's
-    pub header-of-file : (head : Head) → HeadPromise part more (Read head) → headerOf (part ++ rest) 65535 65535 ≡ done head
-    header-of-file head e = subst (Answers (part ++ rest)) (sym e) (answers more g _ refl)
+    pub header-of-file : (head : Head) → HeadPromise reading part more (Read head) → headerOf reading (part ++ rest) 65535 65535 ≡ done head
+    header-of-file head e = subst (Answers reading (part ++ rest)) (sym e) (answers more g _ refl)
 
     -- and one that is refused there is refused so in the file
-    pub refusal-of-file : (r : Refusal) → HeadPromise part more (Refused r) → headerOf (part ++ rest) 65535 65535 ≡ refusalOf r
-    refusal-of-file r e = subst (Answers (part ++ rest)) (sym e) (answers more g _ refl)
+    pub refusal-of-file : (r : Refusal) → HeadPromise reading part more (Refused r) → headerOf reading (part ++ rest) 65535 65535 ≡ refusalOf r
+    refusal-of-file r e = subst (Answers reading (part ++ rest)) (sym e) (answers more g _ refl)
