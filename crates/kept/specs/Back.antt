@@ -8,11 +8,14 @@ use lib.Ieee.{Float, fin}
 use lib.ListN.{length, take, drop}
 use Rattle.steps.specs.Place.{spread}
 use Rattle.steps.specs.Answer.{Answer, done}
+use Rattle.steps.specs.declared.Reading.{Reading}
+use Rattle.steps.specs.declared.Reading.the-variants.{Crate}
 use Rattle.pixel.specs.declared.Pixel.{Pixel}
 use Rattle.pixel.specs.Rgbe.{peak, rgbeAt}
 use Rattle.loss.specs.Kept.{Numbers, Between, InRange, Lies, Below, KeptAll, zeros}
 use Rattle.header.specs.declared.Head.{Head}
 use Rattle.header.specs.Head.{head}
+use Rattle.header.specs.Written.{writtenSaid}
 use Rattle.flat_read.specs.Flat.{isRepeat}
 use Rattle.rows_read.specs.Row.{RowRule, crateRow}
 use Rattle.steps.specs.Width.{isCoded}
@@ -49,9 +52,9 @@ pub record Enough (w h widest highest : ℕ) (out : List Float) (store : List �
 
 -- ---- What comes back
 
--- the reader is done, answers width and height, and takes so many bytes
-abbrev pub doneWith : ℕ → ℕ → ℕ → Answer Head
-doneWith w h taken = done (head w h taken)
+-- the reader is done, answers width, height and what a written header says, and takes so many bytes
+abbrev pub doneWith : Reading → ℕ → ℕ → ℕ → Answer Head
+doneWith reading w h taken = done (head (writtenSaid reading) w h taken)
 
 -- beyond its first n samples the output is as lent
 pub record Beyond (n : ℕ) (lent out : List Float) : Type 0 where
@@ -59,9 +62,9 @@ pub record Beyond (n : ℕ) (lent out : List Float) : Type 0 where
   pub rest : drop n out ≡ drop n lent
 
 -- the reader's answer, and the output that it made of the lent one, for a file of `size` bytes; `near` is how near a sample comes back (`nearOf` of loss), at so many digits of the pixel's largest
-pub record ReadBack (near : ℕ → ℕ → ℕ → Type 0) (w h size : ℕ) (samples lent : List Float) (answer : Answer Head) (out : List Float) : Type 0 where
+pub record ReadBack (near : ℕ → ℕ → ℕ → Type 0) (reading : Reading) (w h size : ℕ) (samples lent : List Float) (answer : Answer Head) (out : List Float) : Type 0 where
   -- "takes exactly the bytes written"
-  pub answered : answer ≡ doneWith w h size
+  pub answered : answer ≡ doneWith reading w h size
   -- "each sample comes back": by the crate reading "at most its value and less than one step below it", by the document reading "at most half a step from the sample, on either side"
   pub kept : (k n : ℕ) → k < w * h → Lies (pixel samples k) n → KeptAll (near n) (pixel samples k) (pixel out k)
   -- "a black pixel comes back as zeros"
@@ -69,8 +72,8 @@ pub record ReadBack (near : ℕ → ℕ → ℕ → Type 0) (w h size : ℕ) (sa
   pub beyond : Beyond (3 * (w * h)) lent out
 
 -- the same for a frame of four-byte pixels, of which nothing is lost: each comes back as what its bytes stand for by the rule
-pub record ReadBack4 (rule : SampleRule) (w h size : ℕ) (px : List ℕ) (lent : List Float) (answer : Answer Head) (out : List Float) : Type 0 where
-  pub answered : answer ≡ doneWith w h size
+pub record ReadBack4 (reading : Reading) (rule : SampleRule) (w h size : ℕ) (px : List ℕ) (lent : List Float) (answer : Answer Head) (out : List Float) : Type 0 where
+  pub answered : answer ≡ doneWith reading w h size
   pub pixels : (k : ℕ) → k < w * h → pixel out k ≡ rule (rgbeAt px (4 * k))
   pub beyond : Beyond (3 * (w * h)) lent out
 
@@ -78,35 +81,35 @@ pub record ReadBack4 (rule : SampleRule) (w h size : ℕ) (px : List ℕ) (lent 
 abbrev pub NoOnes : List ℕ → ℕ → ℕ → Type 0
 NoOnes px w n = isCoded w ≡ false → (k : ℕ) → k < n → isRepeat px (4 * k) ≡ false
 
--- ---- The claims, over the definitions and by any rule for a row and for a pixel: the reader on the file that is written, with any bytes after it
+-- ---- The claims, over the definitions, with the header by a reading and by any rule for a row and for a pixel: the reader on the file that is written, with any bytes after it
 
-abbrev pub ComesBack : (ℕ → ℕ → ℕ → Type 0) → RowRule → SampleRule → ℕ → ℕ → List Float → Type 0
-ComesBack near rowRule rule w h samples =
+abbrev pub ComesBack : (ℕ → ℕ → ℕ → Type 0) → Reading → RowRule → SampleRule → ℕ → ℕ → List Float → Type 0
+ComesBack near reading rowRule rule w h samples =
     (rest : List ℕ) (widest highest : ℕ) (out : List Float) (store : List ℕ) → Enough w h widest highest out store
-    → let left = readBy rowRule rule (fileOf samples w h ++ rest) widest highest out store in
-    ReadBack near w h (length (fileOf samples w h)) samples out (left .0) (left .1)
+    → let left = readBy reading rowRule rule (fileOf samples w h ++ rest) widest highest out store in
+    ReadBack near reading w h (length (fileOf samples w h)) samples out (left .0) (left .1)
 
-abbrev pub ComesBack4 : RowRule → SampleRule → ℕ → ℕ → List ℕ → Type 0
-ComesBack4 rowRule rule w h px =
+abbrev pub ComesBack4 : Reading → RowRule → SampleRule → ℕ → ℕ → List ℕ → Type 0
+ComesBack4 reading rowRule rule w h px =
     (rest : List ℕ) (widest highest : ℕ) (out : List Float) (store : List ℕ) → Enough w h widest highest out store
-    → let left = readBy rowRule rule (frameOf px w h ++ rest) widest highest out store in
-    ReadBack4 rule w h (length (frameOf px w h)) px out (left .0) (left .1)
+    → let left = readBy reading rowRule rule (frameOf px w h ++ rest) widest highest out store in
+    ReadBack4 reading rule w h (length (frameOf px w h)) px out (left .0) (left .1)
 
 -- ---- The claims, over the calls: a call of the writer was done and left n bytes in its output, and a reader by the rules is called on them, with any bytes after
 
-abbrev pub CallsComeBack : (ℕ → ℕ → ℕ → Type 0) → RowRule → SampleRule → ℕ → ℕ → List Float → Type 0
-CallsComeBack near rowRule rule w h samples =
+abbrev pub CallsComeBack : (ℕ → ℕ → ℕ → Type 0) → Reading → RowRule → SampleRule → ℕ → ℕ → List Float → Type 0
+CallsComeBack near reading rowRule rule w h samples =
     (lent left : List ℕ) (n : ℕ) → WritePromise w h samples lent (Done n) left
     → (rest : List ℕ) (widest highest : ℕ) (out out′ : List Float) (store store′ : List ℕ) (answer : ReadAnswer) → Enough w h widest highest out store
-    → ReadPromiseBy rowRule rule (take n left ++ rest) widest highest out store answer out′ store′
-    → ReadBack near w h n samples out (paperOf answer) out′
+    → ReadPromiseBy reading rowRule rule (take n left ++ rest) widest highest out store answer out′ store′
+    → ReadBack near reading w h n samples out (paperOf answer) out′
 
-abbrev pub CallsComeBack4 : RowRule → SampleRule → ℕ → ℕ → List ℕ → Type 0
-CallsComeBack4 rowRule rule w h px =
+abbrev pub CallsComeBack4 : Reading → RowRule → SampleRule → ℕ → ℕ → List ℕ → Type 0
+CallsComeBack4 reading rowRule rule w h px =
     (lent left : List ℕ) (n : ℕ) → Write4Promise w h px lent (Done n) left
     → (rest : List ℕ) (widest highest : ℕ) (out out′ : List Float) (store store′ : List ℕ) (answer : ReadAnswer) → Enough w h widest highest out store
-    → ReadPromiseBy rowRule rule (take n left ++ rest) widest highest out store answer out′ store′
-    → ReadBack4 rule w h n px out (paperOf answer) out′
+    → ReadPromiseBy reading rowRule rule (take n left ++ rest) widest highest out store answer out′ store′
+    → ReadBack4 reading rule w h n px out (paperOf answer) out′
 
 -- ---- A frame in range is written: into every output that is long enough
 
@@ -128,4 +131,4 @@ oneRed x = x ∷ fin false 0 (pos 0) ∷ fin false 0 (pos 0) ∷ []
 pub record Lost (x : Float) : Type 0 where
   pub numbers : Numbers (pixel (oneRed x) 0)
   pub outside : Between (peak (pixel (oneRed x) 0)) → ⊥
-  pub lost : ComesBack Below crateRow cratePixel 1 1 (oneRed x) → ⊥
+  pub lost : ComesBack Below Crate crateRow cratePixel 1 1 (oneRed x) → ⊥

@@ -8,7 +8,7 @@ use lib.Ieee.{Float}
 use lib.ListN.{length, take}
 use Rattle.steps.specs.Loop.{Turns}
 use Rattle.steps.specs.Answer.{Answer, done, refused}
-use Rattle.steps.specs.declared.Reading.the-variants.{Document}
+use Rattle.steps.specs.declared.Reading.the-variants.{Crate, Document}
 use Rattle.header.specs.declared.Head.{Head}
 use Rattle.header.specs.Head.{headerOf}
 use Rattle.rows_read.specs.Row.{crateRow, documentRow}
@@ -22,9 +22,9 @@ abbrev pub AfterRows : List ℕ → Stored → ℕ → Rows → Rows → Type 0
 AfterRows bytes stored = Turns (rowTurn crateRow cratePixel bytes stored)
 
 pub record CutFile (bytes : List ℕ) (widest highest : ℕ) (out : List Float) (store : List ℕ) : Type 0 where
-  -- the checks 1 to 8 pass
+  -- the checks before the rows pass
   pub head : Head
-  pub header : headerOf bytes widest highest ≡ done head
+  pub header : headerOf Crate bytes widest highest ≡ done head
   pub room : head .height * (3 * head .width) ≤ length out
   pub some : 0 < head .width
   pub row : 4 * head .width ≤ length store
@@ -41,9 +41,9 @@ pub record CutFile (bytes : List ℕ) (widest highest : ℕ) (out : List Float) 
 abbrev pub WholeOrCut : Type 0
 WholeOrCut =
     (bytes : List ℕ) (widest highest : ℕ) (out out′ : List Float) (store store′ : List ℕ) (head : Head)
-    → readBy crateRow cratePixel bytes widest highest out store ≡ (done head, out′, store′) → 0 < head .height
+    → readBy Crate crateRow cratePixel bytes widest highest out store ≡ (done head, out′, store′) → 0 < head .height
     → ((c : CutFile bytes widest highest out store) × Short bytes (c .head .width) (c .cut .end))
-    ⊎ ((rest : List ℕ) → readBy crateRow cratePixel (bytes ++ rest) widest highest out store ≡ (done head, out′, store′))
+    ⊎ ((rest : List ℕ) → readBy Crate crateRow cratePixel (bytes ++ rest) widest highest out store ≡ (done head, out′, store′))
 
 -- ---- By the document reading every cut is refused
 
@@ -63,5 +63,5 @@ pub record RefusedIn (bytes : List ℕ) (own : Head) (out : List Float) (store :
 abbrev pub EveryCut : Type 0
 EveryCut =
     (bytes : List ℕ) (m widest highest : ℕ) (out out′ : List Float) (store store′ : List ℕ) (head own : Head)
-    → readOf Document bytes widest highest out store ≡ (done head, out′, store′) → headerOf bytes widest highest ≡ done own → own .taken ≤ m → m < head .taken
+    → readOf Document bytes widest highest out store ≡ (done head, out′, store′) → headerOf Document bytes widest highest ≡ done own → own .taken ≤ m → m < head .taken
     → (k : ℕ) × CutIn bytes own store m k × RefusedIn bytes own out store k (readOf Document (take m bytes) widest highest out store)

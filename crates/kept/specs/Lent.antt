@@ -6,11 +6,12 @@ use mathlib.Core.Path.{_≡_}
 use lib.Ieee.{Float}
 use lib.ListN.{length, drop}
 use Rattle.steps.specs.Answer.{Answer, done, refused, refuse, Check}
+use Rattle.steps.specs.declared.Reading.{Reading}
 use Rattle.steps.specs.Numbered.{FirstFails}
 use Rattle.steps.specs.declared.Taken.{Taken}
 use Rattle.steps.specs.declared.Taken.the-variants.{Done, Fault}
 use Rattle.header.specs.declared.Head.{Head}
-use Rattle.header.specs.Head.{headChecks, fieldsOf, headOf}
+use Rattle.header.specs.Head.{headChecks, headIn}
 use Rattle.rows_read.specs.Row.{RowRule}
 use Rattle.pixel.specs.Rgbe.{rgbeAt}
 use Rattle.reader.specs.Samples.{SampleRule}
@@ -71,12 +72,12 @@ pub record FrameLeft (rowRule : RowRule) (rule : SampleRule) (bytes : List ℕ) 
   pub rows : RowsLeft rowRule rule bytes (storedOf head) (head .taken) out (cleared (storedOf head .long) store) (left .0) (left .1) (left .2)
   pub row-store : StoreLeft (storedOf head .long) store (left .2)
 
--- the checks 1 to 8
-abbrev pub earlyChecks : List ℕ → ℕ → ℕ → List Float → List ℕ → List Check
-earlyChecks bytes widest highest out store = headChecks bytes widest highest ++ frameChecks (headOf (fieldsOf bytes)) out store
+-- the header's checks and 6 to 8
+abbrev pub earlyChecks : Reading → List ℕ → ℕ → ℕ → List Float → List ℕ → List Check
+earlyChecks reading bytes widest highest out store = headChecks reading bytes widest highest ++ frameChecks (headIn reading bytes) out store
 
 -- "All refusals but 9 change no lent memory", and 14 and 25, which leave it as 9 does: where one of these checks fails, output and row store are as lent; where none does, they are as the rows leave them
-pub record ReadLeft (rowRule : RowRule) (rule : SampleRule) (bytes : List ℕ) (widest highest : ℕ) (out : List Float) (store : List ℕ) : Type 0 where
-  pub early : (n : ℕ) → FirstFails n (earlyChecks bytes widest highest out store) → readBy rowRule rule bytes widest highest out store ≡ (refuse n, out, store)
-  pub later : ((n : ℕ) → FirstFails n (earlyChecks bytes widest highest out store) → ⊥)
-      → (left : Left) × (readBy rowRule rule bytes widest highest out store ≡ framed (headOf (fieldsOf bytes)) left) × FrameLeft rowRule rule bytes (headOf (fieldsOf bytes)) out store left
+pub record ReadLeft (reading : Reading) (rowRule : RowRule) (rule : SampleRule) (bytes : List ℕ) (widest highest : ℕ) (out : List Float) (store : List ℕ) : Type 0 where
+  pub early : (n : ℕ) → FirstFails n (earlyChecks reading bytes widest highest out store) → readBy reading rowRule rule bytes widest highest out store ≡ (refuse n, out, store)
+  pub later : ((n : ℕ) → FirstFails n (earlyChecks reading bytes widest highest out store) → ⊥)
+      → (left : Left) × (readBy reading rowRule rule bytes widest highest out store ≡ framed (headIn reading bytes) left) × FrameLeft rowRule rule bytes (headIn reading bytes) out store left

@@ -5,7 +5,8 @@ use lib.ListN.{length}
 use lib.Dec.{ltb}
 use lib.Ieee.{Float}
 use Rattle.steps.specs.Answer.{Check, check}
-use Rattle.header.specs.Head.{headChecks, fieldsOf, headOf}
+use Rattle.steps.specs.declared.Reading.{Reading}
+use Rattle.header.specs.Head.{headChecks, headIn}
 use Rattle.rows_read.specs.Row.{RowRule}
 use Rattle.reader.specs.Samples.{SampleRule}
 use Rattle.reader.specs.Frame.{storedOf, cleared, rowsOf, faultOf}
@@ -14,12 +15,12 @@ use Rattle.frames_written.specs.Samples.{firstBright}
 use Rattle.frames_written.specs.Frame.{frameOf, fileOf}
 use Rattle.writer.specs.Write as writer
 
--- the reader, by any rule for a row and for a pixel: 1 to 8 before anything is written, and then the number of the first row at fault, 9 or 25 in the crate reading, 9 or 14 in the document reading
-unfoldable pub readChecks : RowRule → SampleRule → List ℕ → ℕ → ℕ → List Float → List ℕ → List Check
-readChecks rowRule rule bytes widest highest out store =
-    let head = headOf (fieldsOf bytes) in
+-- the reader, with the header by a reading and by any rule for a row and for a pixel: 1, 15 or 16, and 2 to 8 before anything is written, and then the number of the first row at fault, 9 or 25 in the crate reading, 9 or 14 in the document reading
+unfoldable pub readChecks : Reading → RowRule → SampleRule → List ℕ → ℕ → ℕ → List Float → List ℕ → List Check
+readChecks reading rowRule rule bytes widest highest out store =
+    let head = headIn reading bytes in
     let rows = rowsOf rowRule rule bytes (storedOf head) (head .taken) out (cleared (storedOf head .long) store) in
-    headChecks bytes widest highest ++ (frameChecks head out store ++ faultOf (rows .0) ∷ [])
+    headChecks reading bytes widest highest ++ (frameChecks head out store ++ faultOf (rows .0) ∷ [])
 
 -- the length of a frame of samples: 7, 10, 11, 12
 unfoldable pub lengthChecks : ℕ → ℕ → List Float → List Check

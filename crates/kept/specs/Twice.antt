@@ -36,9 +36,9 @@ SavedTwice reading w h samples =
 -- ---- The claim, over the calls
 
 -- the reader's answer, and of the second call of the writer, to which `lent` was lent, its answer and what it left
-pub record SameFile (w h n : ℕ) (first : List ℕ) (told : Answer Head) (lent : List ℕ) (answer : WriteAnswer) (left : List ℕ) : Type 0 where
+pub record SameFile (reading : Reading) (w h n : ℕ) (first : List ℕ) (told : Answer Head) (lent : List ℕ) (answer : WriteAnswer) (left : List ℕ) : Type 0 where
   -- the reader took the n bytes of the first file, and told the sizes with which it is written again
-  pub read : told ≡ doneWith w h n
+  pub read : told ≡ doneWith reading w h n
   -- n bytes were written again, the same ones, and nothing behind them
   pub answered : answer ≡ Done n
   pub bytes : take n left ≡ take n first
@@ -51,7 +51,7 @@ CallsSaveTwice reading w h samples =
     → (rest : List ℕ) (widest highest : ℕ) (out out′ : List Float) (store store′ : List ℕ) (answer : ReadAnswer) → Enough w h widest highest out store
     → ReadPromise reading (take n left ++ rest) widest highest out store answer out′ store′
     → (lent′ left′ : List ℕ) (again : WriteAnswer) → n ≤ length lent′ → WritePromise w h (frameIn w h out′) lent′ again left′
-    → SameFile w h n left (paperOf answer) lent′ again left′
+    → SameFile reading w h n left (paperOf answer) lent′ again left′
 
 -- ---- Outside its range a frame may change: one red pixel, of a number that lies outside, is not the same when it is saved twice
 pub record Changed (reading : Reading) (x : Float) : Type 0 where

@@ -10,14 +10,21 @@ use lib.ListN.{length, getD, drop, length-append}
 use lib.Seq.{take-append-seam}
 use lib.Dec.{ltb, leb, lit<}
 use Rattle.steps.specs.Answer.{done}
+use Rattle.steps.specs.declared.Reading.{Reading}
+use Rattle.steps.specs.declared.Reading.the-variants.{Crate, Document}
 use Rattle.steps.proofs.Laws.Turns.{and-left, and-right}
 use Rattle.steps.proofs.Laws.Place.{drop-past}
 use Rattle.words.specs.Lines.{lineFeed, space, upTo, past, between, same, isFirst, linesEnd}
 use Rattle.words.specs.Fields.{isBlank, trimStart, trimEnd, trim, minusY, plusX, axesOf}
 use Rattle.words.specs.Sizes.{isDigit, allDigits, valueFrom, isNumber, isSome, isSize, sizeOf}
 use Rattle.words.specs.Inner.{sizeAnswer}
+use Rattle.stated.specs.declared.SaidAnswer.the-variants.{Heard}
+use Rattle.stated.specs.declared.Colour.the-variants.{Rgbe}
+use Rattle.stated.specs.Said.{nothing, coloured, starts, formatted, heard, saidOf, saidBy}
+use Rattle.stated.proofs.Laws.Said.{place}
+use Rattle.stated.proofs.Laws.Lines.{said-on, said-blank}
 use Rattle.header.specs.Head.{limit, head, headerOf}
-use Rattle.header.specs.Written.{digits, written}
+use Rattle.header.specs.Written.{digits, written, writtenSaid}
 use Rattle.words.specs.declared.sizes.Size.the-variants.{Number}
 use Rattle.words.specs.declared.fields.Axes.the-variants.{HeightFirst}
 use Rattle.words.proofs.Laws.Lines.{upTo-found, upTo-on, lines-start, lines-on, lines-blank}
@@ -172,17 +179,32 @@ module _ (w h : ℕ) (rest : List ℕ) where
   unfolding written past upTo
   third-line = refl
 
-  starts : (getD bytes 11 0 ≡ 83) × (getD bytes 29 0 ≡ 70) × (getD bytes 52 0 ≡ lineFeed)
+  starts-with : (getD bytes 11 0 ≡ 83) × (getD bytes 29 0 ≡ 70) × (getD bytes 52 0 ≡ lineFeed)
   unfolding written
-  starts = (refl, refl, refl)
+  starts-with = (refl, refl, refl)
 
   lines-there : 53 ≡ linesEnd bytes 11
   lines-there =
       let long : 61 ≤ length bytes = omega (arith, length-append (written w h) rest, written-length w h) in
-      let at = starts in
+      let at = starts-with in
       let one = lines-on bytes 11 _ (lines-start bytes 11) (omega arith) 29 (λ e. omega arith) second-line in
       let two = lines-on bytes 29 _ one (omega arith) 52 (λ e. omega arith) third-line in
       lines-blank bytes 52 _ two (omega arith) (at .2)
+
+  -- and what they say
+  lines-say : (heard nothing (between bytes 11 29) ≡ done nothing) × (heard nothing (between bytes 29 52) ≡ done (coloured nothing Rgbe))
+  unfolding written heard starts same formatted trimStart trimEnd isBlank
+  lines-say = (refl, refl)
+
+  said-there : (reading : Reading) → saidBy reading bytes 11 ≡ done (writtenSaid reading)
+  unfolding saidOf
+  said-there Crate = refl
+  said-there Document =
+      let long : 61 ≤ length bytes = omega (arith, length-append (written w h) rest, written-length w h) in
+      let at = starts-with in
+      said-on bytes (place 11 nothing) (omega arith) 29 nothing (λ e. omega arith) second-line (lines-say .0)
+      ∙ said-on bytes (place 29 nothing) (omega arith) 52 (coloured nothing Rgbe) (λ e. omega arith) third-line (lines-say .1)
+      ∙ said-blank bytes (place 52 (coloured nothing Rgbe)) (omega arith) (at .2)
 
   fields-there : drop 53 bytes ≡ first ++ (second ++ (third ++ (fourth ++ rest)))
   unfolding written
@@ -196,9 +218,9 @@ module _ (w h : ℕ) (rest : List ℕ) where
   taken-there = omega (arith, written-length w h, length-append (digits h) (space ∷ []), length-append (digits w) (lineFeed ∷ []))
 
   -- the written header, with any bytes after it, is read within the limits
-  pub header-back : (widest highest : ℕ) → w ≤ limit widest → h ≤ limit highest
-      → headerOf bytes widest highest ≡ done (head w h (length (written w h)))
-  header-back widest highest wide high =
+  pub header-back : (reading : Reading) (widest highest : ℕ) → w ≤ limit widest → h ≤ limit highest
+      → headerOf reading bytes widest highest ≡ done (head (writtenSaid reading) w h (length (written w h)))
+  header-back reading widest highest wide high =
       let W = digits-are w in
       let H = digits-are h in
       let A = axes-fields in
@@ -222,7 +244,7 @@ module _ (w h : ℕ) (rest : List ℕ) where
       (sym (ap trim (between-there bytes a second _ e2) ∙ trimmed-there h (digits h) space (blank-space space refl) H))
       (sym (ap trim (between-there bytes b third _ e3) ∙ A .3))
       (sym (ap trim (between-there bytes c fourth _ e4) ∙ trimmed-there w (digits w) lineFeed feed-blank W))
-      widest highest HeightFirst (A .4) _ refl
-      (sizes-read (digits h) (digits w) d widest highest (Number h) height h refl (Number w) width w refl (limit highest) refl high (limit widest) refl wide) in
-      sym (header-right bytes widest highest 11 first-line true is-first _ 53 refl lines-there fields)
-      ∙ ap (λ (n : ℕ). done (head w h n)) taken-there
+      (writtenSaid reading) widest highest HeightFirst (A .4) _ refl
+      (sizes-read (writtenSaid reading) (digits h) (digits w) d widest highest (Number h) height h refl (Number w) width w refl (limit highest) refl high (limit widest) refl wide) in
+      sym (header-right reading bytes widest highest 11 first-line true is-first _ refl (Heard (writtenSaid reading)) (sym (said-there reading)) (writtenSaid reading) 53 refl lines-there fields)
+      ∙ ap (λ (n : ℕ). done (head (writtenSaid reading) w h n)) taken-there

@@ -111,30 +111,30 @@ module _ (gap : ℕ) (rowRule : RowRule) (rule : SampleRule) (alone : Alone gap 
 -- ---- The whole file
 
 -- a header that ends among the first n bytes, and before the end of all
-pub header-alone : (bytes other : List ℕ) (n widest highest : ℕ) (head : Head) → Alike n bytes other → headerOf bytes widest highest ≡ done head → Near 1 (length bytes) n (head .taken)
-    → headerOf other widest highest ≡ done head
-header-alone bytes other n widest highest head alike e near =
+pub header-alone : (reading : Reading) (bytes other : List ℕ) (n widest highest : ℕ) (head : Head) → Alike n bytes other → headerOf reading bytes widest highest ≡ done head → Near 1 (length bytes) n (head .taken)
+    → headerOf reading other widest highest ≡ done head
+header-alone reading bytes other n widest highest head alike e near =
     let parted : take n bytes ++ drop n bytes ≡ bytes = take-append-drop n bytes in
-    let end : fieldsOf (take n bytes ++ drop n bytes) .taken ≡ head .taken = rw parted (header-taken bytes widest highest head e) in
+    let end : fieldsOf (take n bytes ++ drop n bytes) .taken ≡ head .taken = rw parted (header-taken reading bytes widest highest head e) in
     let size : length (take n bytes) ≡ n = length-take-le n bytes (alike .0) in
-    let inside : Inside (fieldsOf (take n bytes ++ drop n bytes) .taken) (take n bytes) (drop n bytes) = (omega (arith, near .0), rw parted (omega (arith, near .1, header-taken bytes widest highest head e))) in
+    let inside : Inside (fieldsOf (take n bytes ++ drop n bytes) .taken) (take n bytes) (drop n bytes) = (omega (arith, near .0), rw parted (omega (arith, near .1, header-taken reading bytes widest highest head e))) in
     let again : take n bytes ++ drop n other ≡ other = rw (← alike .2) (take-append-drop n other) in
-    ap (λ (l : List ℕ). headerOf l widest highest) (sym again) ∙ header-rest (take n bytes) (drop n bytes) (drop n other) widest highest inside ∙ rw parted e
+    ap (λ (l : List ℕ). headerOf reading l widest highest) (sym again) ∙ header-rest (take n bytes) (drop n bytes) (drop n other) reading widest highest inside ∙ rw parted e
 
-module _ (gap : ℕ) (rowRule : RowRule) (rule : SampleRule) (alone : Alone gap rowRule) (past : NonePast gap rowRule) (bytes other : List ℕ) (widest highest : ℕ)
+module _ (gap : ℕ) (reading : Reading) (rowRule : RowRule) (rule : SampleRule) (alone : Alone gap rowRule) (past : NonePast gap rowRule) (bytes other : List ℕ) (widest highest : ℕ)
     (out out′ : List Float) (store store′ : List ℕ) (head : Head) where
   -- `gap` bytes stand behind those taken, and one behind the header
-  pub taken-alone-by : (f : FileRead rowRule rule bytes widest highest out store head out′ store′) → head .taken + gap ≤ length bytes → f .own .taken < length bytes
-      → Alike (head .taken) bytes other → readBy rowRule rule other widest highest out store ≡ (done head, out′, store′)
+  pub taken-alone-by : (f : FileRead reading rowRule rule bytes widest highest out store head out′ store′) → head .taken + gap ≤ length bytes → f .own .taken < length bytes
+      → Alike (head .taken) bytes other → readBy reading rowRule rule other widest highest out store ≡ (done head, out′, store′)
   taken-alone-by f behind begun alike =
       let h = f .own in
       let n : ℕ = head .taken in
       let cleared = cleared (storedOf h .long) store in
-      let firm : Firm gap (length bytes) n (rowsBy rowRule rule bytes widest highest out store h .0) = subst (λ (z : Left). Firm gap (length bytes) n (z .0)) (sym (f .rows)) (omega arith, behind) in
+      let firm : Firm gap (length bytes) n (rowsBy reading rowRule rule bytes widest highest out store h .0) = subst (λ (z : Left). Firm gap (length bytes) n (z .0)) (sym (f .rows)) (omega arith, behind) in
       let near = near-or gap (length bytes) n (h .taken) (λ near. near) (λ far. absurd (rows-of-past gap rowRule rule past bytes n (storedOf h) (h .taken) out cleared far firm)) in
-      read-file rowRule rule other widest highest out store head out′ store′ (record {
+      read-file reading rowRule rule other widest highest out store head out′ store′ (record {
         own = h;
-        header = header-alone bytes other n widest highest h alike (f .header) (near .0, omega arith);
+        header = header-alone reading bytes other n widest highest h alike (f .header) (near .0, omega arith);
         checks = f .checks;
         rows = rows-alone gap rowRule rule alone past bytes other n alike (storedOf h) (h .taken) out cleared firm ∙ f .rows;
         said = f .said;
@@ -143,7 +143,7 @@ module _ (gap : ℕ) (rowRule : RowRule) (rule : SampleRule) (alone : Alone gap 
 -- ---- Either reading
 
 module _ (reading : Reading) (bytes : List ℕ) (widest highest : ℕ) (out out′ : List Float) (store store′ : List ℕ) (head : Head)
-    (f : FileRead (rowOf reading) (pixelBy reading) bytes widest highest out store head out′ store′) where
+    (f : FileRead reading (rowOf reading) (pixelBy reading) bytes widest highest out store head out′ store′) where
   abbrev own : Head
   own = f .own
 
@@ -156,29 +156,29 @@ module _ (reading : Reading) (bytes : List ℕ) (widest highest : ℕ) (out out�
   -- all bytes that are taken are there, the header's first
   pub taken-there : (own .taken ≤ head .taken) × (head .taken ≤ length bytes)
   taken-there =
-      let last = start-within (rowOf reading) (reading-sound reading) bytes (own .width) (own .taken) (cleared (own .width) store) (header-within bytes widest highest own (f .header)) (own .height) in
+      let last = start-within (rowOf reading) (reading-sound reading) bytes (own .width) (own .taken) (cleared (own .width) store) (header-within reading bytes widest highest own (f .header)) (own .height) in
       let is : head .taken ≡ before (rowOf reading) bytes (own .width) (own .taken) (cleared (own .width) store) (own .height) .0 = ap (λ (z : ℕ × List ℕ). z .0) (rows-there .1) in
       (omega arith, omega arith)
 
 -- by the document reading a row takes bytes
 pub rows-begun : (bytes : List ℕ) (widest highest : ℕ) (out out′ : List Float) (store store′ : List ℕ) (head : Head)
-    → (f : FileRead (rowOf Document) (pixelBy Document) bytes widest highest out store head out′ store′) → 0 < f .own .height → f .own .taken < length bytes
+    → (f : FileRead Document (rowOf Document) (pixelBy Document) bytes widest highest out store head out′ store′) → 0 < f .own .height → f .own .taken < length bytes
 unfolding before
 rows-begun bytes widest highest out out′ store store′ head f high =
     let own = f .own in
     let some : 0 < own .width = omega (arith, eqb-false (own .width) 0 (f .checks .1 .0)) in
     let first = rows-there Document bytes widest highest out out′ store store′ head f .0 .read 0 high in
-    let end = start-within (rowOf Document) (reading-sound Document) bytes (own .width) (own .taken) (cleared (own .width) store) (header-within bytes widest highest own (f .header)) 1 in
+    let end = start-within (rowOf Document) (reading-sound Document) bytes (own .width) (own .taken) (cleared (own .width) store) (header-within Document bytes widest highest own (f .header)) 1 in
     omega (arith, document-first bytes (own .taken) (cleared (own .width) store) (own .width) _ some (end .1) first)
 
 pub taken-alone : (reading : Reading) → TakenAlone reading
 taken-alone Crate bytes other widest highest out out′ store store′ head e seen alike =
-    let f = file-read (rowOf Crate) (pixelBy Crate) bytes widest highest out store head out′ store′ e in
+    let f = file-read Crate (rowOf Crate) (pixelBy Crate) bytes widest highest out store head out′ store′ e in
     let there = taken-there Crate bytes widest highest out out′ store store′ head f in
-    taken-alone-by 1 (rowOf Crate) (pixelBy Crate) (reading-alone Crate) (reading-past Crate) bytes other widest highest out out′ store store′ head f (omega arith) (omega arith) alike
+    taken-alone-by 1 Crate (rowOf Crate) (pixelBy Crate) (reading-alone Crate) (reading-past Crate) bytes other widest highest out out′ store store′ head f (omega arith) (omega arith) alike
 taken-alone Document bytes other widest highest out out′ store store′ head e seen alike =
-    let f = file-read (rowOf Document) (pixelBy Document) bytes widest highest out store head out′ store′ e in
+    let f = file-read Document (rowOf Document) (pixelBy Document) bytes widest highest out store head out′ store′ e in
     let there = taken-there Document bytes widest highest out out′ store store′ head f in
     let high : 0 < f .own .height = omega (arith, ap (λ (x : Head). x .height) (f .said)) in
-    taken-alone-by 0 (rowOf Document) (pixelBy Document) (reading-alone Document) (reading-past Document) bytes other widest highest out out′ store store′ head f (omega arith)
+    taken-alone-by 0 Document (rowOf Document) (pixelBy Document) (reading-alone Document) (reading-past Document) bytes other widest highest out out′ store store′ head f (omega arith)
     (rows-begun bytes widest highest out out′ store store′ head f high) alike

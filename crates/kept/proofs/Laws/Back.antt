@@ -55,10 +55,10 @@ module _ (rule : SampleRule) (w h : ℕ) (px : List ℕ) (lent out : List Float)
     rest = ap (drop (3 * (w * h))) front ∙ drop-at back (drop (3 * (w * h)) lent) (3 * (w * h)) (length-samples rule px 0 (w * h));
   }
 
-pub read-back4-by : (rowRule : RowRule) (rule : SampleRule) → RowsBack rowRule → (w h : ℕ) (px : List ℕ) → Sizes w h → NoOnes px w (w * h) → ComesBack4 rowRule rule w h px
-read-back4-by rowRule rule rows w h px sizes none rest widest highest out store enough =
+pub read-back4-by : (reading : Reading) (rowRule : RowRule) (rule : SampleRule) → RowsBack rowRule → (w h : ℕ) (px : List ℕ) → Sizes w h → NoOnes px w (w * h) → ComesBack4 reading rowRule rule w h px
+read-back4-by reading rowRule rule rows w h px sizes none rest widest highest out store enough =
     let room : h * (3 * w) ≤ length out = rw (mul-left-comm, mul-comm h w) (enough .room) in
-    let both = frame-back rowRule rule rows px w h rest widest highest out store (sizes .some) (omega arith) (omega arith) room (enough .row)
+    let both = frame-back reading rowRule rule rows px w h rest widest highest out store (sizes .some) (omega arith) (omega arith) room (enough .row)
     (λ flat k l. ap (isRepeat px) (zero-add (4 * k)) ∙ none flat k (rw mul-comm l)) in
     let is = both .1 ∙ ap (λ (n : ℕ). spread 1 out 0 (samplesFrom rule px 0 n)) (mul-comm h w) in
     record {
@@ -95,20 +95,20 @@ pub record PixelsBack (range : ℕ → Type 0) (near : ℕ → ℕ → ℕ → T
 
 -- ---- Demand 3, by any rules of which that holds
 
-module _ (rowRule : RowRule) (rule : SampleRule) (rows : RowsBack rowRule) where
+module _ (reading : Reading) (rowRule : RowRule) (rule : SampleRule) (rows : RowsBack rowRule) where
   -- the four-byte pixels of a frame come back, in range or not
-  packed-back-by : (w h : ℕ) (samples : List Float) → Sizes w h → ComesBack4 rowRule rule w h (packed samples 0 (w * h))
-  packed-back-by w h samples sizes = read-back4-by rowRule rule rows w h (packed samples 0 (w * h)) sizes (λ flat. packed-no-ones samples (w * h))
+  packed-back-by : (w h : ℕ) (samples : List Float) → Sizes w h → ComesBack4 reading rowRule rule w h (packed samples 0 (w * h))
+  packed-back-by w h samples sizes = read-back4-by reading rowRule rule rows w h (packed samples 0 (w * h)) sizes (λ flat. packed-no-ones samples (w * h))
 
   -- each pixel comes back as what its four bytes stand for, in range or not
   pub pixels-back-by : (w h : ℕ) (samples : List Float) → Sizes w h → (rest : List ℕ) (widest highest : ℕ) (out : List Float) (store : List ℕ) → Enough w h widest highest out store
-      → (k : ℕ) → k < w * h → pixel (readBy rowRule rule (fileOf samples w h ++ rest) widest highest out store .1) k ≡ rule (bytesOf (pixel samples k))
+      → (k : ℕ) → k < w * h → pixel (readBy reading rowRule rule (fileOf samples w h ++ rest) widest highest out store .1) k ≡ rule (bytesOf (pixel samples k))
   pixels-back-by w h samples sizes rest widest highest out store enough k l =
       packed-back-by w h samples sizes rest widest highest out store enough .pixels k l
       ∙ ap rule (packed-bytes samples (w * h) k l)
 
   pub read-back-by : (range : ℕ → Type 0) (near : ℕ → ℕ → ℕ → Type 0) → PixelsBack range near rule → (w h : ℕ) (samples : List Float) → Sizes w h → AllInRange range samples (w * h)
-      → ComesBack near rowRule rule w h samples
+      → ComesBack near reading rowRule rule w h samples
   read-back-by range near pixels w h samples sizes all rest widest highest out store enough =
       let back = packed-back-by w h samples sizes rest widest highest out store enough in
       let is = pixels-back-by w h samples sizes rest widest highest out store enough in
@@ -128,16 +128,16 @@ reading-pixels reading = record {
   black = λ p e. black-back reading p (subst (λ (v : ℕ). v ≤ dark) (sym e) zero-le);
 }
 
-pub read-back4 : (reading : Reading) (w h : ℕ) (px : List ℕ) → Sizes w h → NoOnes px w (w * h) → ComesBack4 (rowOf reading) (pixelBy reading) w h px
-read-back4 reading = read-back4-by (rowOf reading) (pixelBy reading) (reading-row-back reading)
+pub read-back4 : (reading : Reading) (w h : ℕ) (px : List ℕ) → Sizes w h → NoOnes px w (w * h) → ComesBack4 reading (rowOf reading) (pixelBy reading) w h px
+read-back4 reading = read-back4-by reading (rowOf reading) (pixelBy reading) (reading-row-back reading)
 
-pub packed-back : (reading : Reading) (w h : ℕ) (samples : List Float) → Sizes w h → ComesBack4 (rowOf reading) (pixelBy reading) w h (packed samples 0 (w * h))
-packed-back reading = packed-back-by (rowOf reading) (pixelBy reading) (reading-row-back reading)
+pub packed-back : (reading : Reading) (w h : ℕ) (samples : List Float) → Sizes w h → ComesBack4 reading (rowOf reading) (pixelBy reading) w h (packed samples 0 (w * h))
+packed-back reading = packed-back-by reading (rowOf reading) (pixelBy reading) (reading-row-back reading)
 
 pub pixels-back : (reading : Reading) (w h : ℕ) (samples : List Float) → Sizes w h → (rest : List ℕ) (widest highest : ℕ) (out : List Float) (store : List ℕ) → Enough w h widest highest out store
     → (k : ℕ) → k < w * h → pixel (readOf reading (fileOf samples w h ++ rest) widest highest out store .1) k ≡ pixelOf (unitsOf reading) (bytesOf (pixel samples k))
 unfolding pixelBy
-pixels-back reading = pixels-back-by (rowOf reading) (pixelBy reading) (reading-row-back reading)
+pixels-back reading = pixels-back-by reading (rowOf reading) (pixelBy reading) (reading-row-back reading)
 
-pub read-back : (reading : Reading) (w h : ℕ) (samples : List Float) → Sizes w h → AllInRange (rangeOf reading) samples (w * h) → ComesBack (nearOf reading) (rowOf reading) (pixelBy reading) w h samples
-read-back reading = read-back-by (rowOf reading) (pixelBy reading) (reading-row-back reading) (rangeOf reading) (nearOf reading) (reading-pixels reading)
+pub read-back : (reading : Reading) (w h : ℕ) (samples : List Float) → Sizes w h → AllInRange (rangeOf reading) samples (w * h) → ComesBack (nearOf reading) reading (rowOf reading) (pixelBy reading) w h samples
+read-back reading = read-back-by reading (rowOf reading) (pixelBy reading) (reading-row-back reading) (rangeOf reading) (nearOf reading) (reading-pixels reading)

@@ -45,35 +45,35 @@ sizes-passed w h got each p =
 
 -- ---- A reader on the bytes that the writer left: what holds of its definition on the file holds of the call
 
-module _ (rowRule : RowRule) (rule : SampleRule) where
+module _ (reading : Reading) (rowRule : RowRule) (rule : SampleRule) where
   module _ (file lent left : List ℕ) (n : ℕ) (wrote : Stored file lent n left) (rest : List ℕ) (widest highest : ℕ) (out out′ : List Float) (store store′ : List ℕ) (answer : ReadAnswer)
-      (read : ReadPromiseBy rowRule rule (take n left ++ rest) widest highest out store answer out′ store′) where
-    pub by-calls : (P : ℕ → Answer Head × List Float × List ℕ → Type 0) → P (length file) (readBy rowRule rule (file ++ rest) widest highest out store) → P n (paperOf answer, out′, store′)
+      (read : ReadPromiseBy reading rowRule rule (take n left ++ rest) widest highest out store answer out′ store′) where
+    pub by-calls : (P : ℕ → Answer Head × List Float × List ℕ → Type 0) → P (length file) (readBy reading rowRule rule (file ++ rest) widest highest out store) → P n (paperOf answer, out′, store′)
     by-calls P p =
         let bytes : take n left ≡ file = ap (take n) (wrote .bytes) ∙ take-at file (drop n lent) n (sym (wrote .size)) in
-        subst (P n) (sym (read ∙ ap (λ (l : List ℕ). readBy rowRule rule (l ++ rest) widest highest out store) bytes))
-        (subst (λ (m : ℕ). P m (readBy rowRule rule (file ++ rest) widest highest out store)) (sym (wrote .size)) p)
+        subst (P n) (sym (read ∙ ap (λ (l : List ℕ). readBy reading rowRule rule (l ++ rest) widest highest out store) bytes))
+        (subst (λ (m : ℕ). P m (readBy reading rowRule rule (file ++ rest) widest highest out store)) (sym (wrote .size)) p)
 
   module _ (rows : RowsBack rowRule) where
     pub calls-back-by : (range : ℕ → Type 0) (near : ℕ → ℕ → ℕ → Type 0) → PixelsBack range near rule → (w h : ℕ) (samples : List Float) → AllInRange range samples (w * h)
-        → CallsComeBack near rowRule rule w h samples
+        → CallsComeBack near reading rowRule rule w h samples
     calls-back-by range near pixels w h samples all lent left n wrote rest widest highest out out′ store store′ answer enough read =
         let told = write-told w h n samples lent left (sym wrote) in
-        by-calls (fileOf samples w h) lent left n (told .2) rest widest highest out out′ store store′ answer read (λ m z. ReadBack near w h m samples out (z .0) (z .1))
-        (read-back-by rowRule rule rows range near pixels w h samples (sizes-passed w h (length samples) 3 (told .0)) all rest widest highest out store enough)
+        by-calls (fileOf samples w h) lent left n (told .2) rest widest highest out out′ store store′ answer read (λ m z. ReadBack near reading w h m samples out (z .0) (z .1))
+        (read-back-by reading rowRule rule rows range near pixels w h samples (sizes-passed w h (length samples) 3 (told .0)) all rest widest highest out store enough)
 
-    pub calls-back4-by : (w h : ℕ) (px : List ℕ) → NoOnes px w (w * h) → CallsComeBack4 rowRule rule w h px
+    pub calls-back4-by : (w h : ℕ) (px : List ℕ) → NoOnes px w (w * h) → CallsComeBack4 reading rowRule rule w h px
     calls-back4-by w h px none lent left n wrote rest widest highest out out′ store store′ answer enough read =
         let told = write4-told w h n px lent left (sym wrote) in
-        by-calls (frameOf px w h) lent left n (told .2) rest widest highest out out′ store store′ answer read (λ m z. ReadBack4 rule w h m px out (z .0) (z .1))
-        (read-back4-by rowRule rule rows w h px (sizes-passed w h (length px) 4 (told .0)) none rest widest highest out store enough)
+        by-calls (frameOf px w h) lent left n (told .2) rest widest highest out out′ store store′ answer read (λ m z. ReadBack4 reading rule w h m px out (z .0) (z .1))
+        (read-back4-by reading rowRule rule rows w h px (sizes-passed w h (length px) 4 (told .0)) none rest widest highest out store enough)
 
 -- by either reading: `reader::read`
-pub calls-back : (reading : Reading) (w h : ℕ) (samples : List Float) → AllInRange (rangeOf reading) samples (w * h) → CallsComeBack (nearOf reading) (rowOf reading) (pixelBy reading) w h samples
-calls-back reading = calls-back-by (rowOf reading) (pixelBy reading) (reading-row-back reading) (rangeOf reading) (nearOf reading) (reading-pixels reading)
+pub calls-back : (reading : Reading) (w h : ℕ) (samples : List Float) → AllInRange (rangeOf reading) samples (w * h) → CallsComeBack (nearOf reading) reading (rowOf reading) (pixelBy reading) w h samples
+calls-back reading = calls-back-by reading (rowOf reading) (pixelBy reading) (reading-row-back reading) (rangeOf reading) (nearOf reading) (reading-pixels reading)
 
-pub calls-back4 : (reading : Reading) (w h : ℕ) (px : List ℕ) → NoOnes px w (w * h) → CallsComeBack4 (rowOf reading) (pixelBy reading) w h px
-calls-back4 reading = calls-back4-by (rowOf reading) (pixelBy reading) (reading-row-back reading)
+pub calls-back4 : (reading : Reading) (w h : ℕ) (px : List ℕ) → NoOnes px w (w * h) → CallsComeBack4 reading (rowOf reading) (pixelBy reading) w h px
+calls-back4 reading = calls-back4-by reading (rowOf reading) (pixelBy reading) (reading-row-back reading)
 
 -- ---- A frame of which no pixel is too bright is written; so is one in range
 

@@ -72,9 +72,9 @@ module _ (bytes : List ℕ) (widest highest : ℕ) (out : List Float) (store : L
       rows-done crateRow cratePixel bytes stored (length bytes) (x .row + 1) lastStore lastOut a next (omega (arith, c .is-last))
 
   -- it is done, and all its bytes are taken
-  pub cut-file : readBy crateRow cratePixel bytes widest highest out store ≡ (done (taking (c .head) (length bytes)), lastOut, lastStore)
+  pub cut-file : readBy Crate crateRow cratePixel bytes widest highest out store ≡ (done (taking (c .head) (length bytes)), lastOut, lastStore)
   cut-file =
-      sym (read-frame crateRow cratePixel bytes widest highest out store (Read (c .head)) (sym (c .header)) (c .head) _ refl
+      sym (read-frame Crate crateRow cratePixel bytes widest highest out store (Read (c .head)) (sym (c .header)) (c .head) _ refl
       (frame-rows crateRow cratePixel bytes (c .head) out store (c .room) (λ e. omega (arith, c .some)) (cleared (c .head .width) store) _ (c .row) refl (ap (framed (c .head)) all-rows)))
 
 -- ---- A pixel whose exponent byte is 0 is black

@@ -4,6 +4,7 @@ use mathlib.Core.List.{List}
 use mathlib.Core.Path.{_≡_, refl, sym, ap, _∙_}
 use lib.Ieee.{Float}
 use Rattle.steps.specs.Answer.{Answer, done, refused, refuse}
+use Rattle.steps.specs.declared.Reading.{Reading}
 use Rattle.steps.proofs.Laws.Answer.{Passed, differ, pass, passed-by}
 use Rattle.header.specs.declared.Head.{Head}
 use Rattle.header.specs.declared.HeadAnswer.the-variants.{Read, Refused}
@@ -20,7 +21,7 @@ pub refused-done : {A X : Type 0} (number place : ℕ) (a : A) (out out′ : Lis
     → _≡_ {A = Answer A × List Float × List ℕ} (refused number place, out, store) (done a, out′, store′) → X
 refused-done {A} number place a out out′ store store′ e = absurd (differ a number place (sym (ap (λ (z : Answer A × List Float × List ℕ). z .0) e)))
 
-module _ (rowRule : RowRule) (rule : SampleRule) (bytes : List ℕ) (widest highest : ℕ) (out : List Float) (store : List ℕ) where
+module _ (reading : Reading) (rowRule : RowRule) (rule : SampleRule) (bytes : List ℕ) (widest highest : ℕ) (out : List Float) (store : List ℕ) where
   -- the rows of a file whose header says h
   abbrev pub rowsBy : Head → Left
   rowsBy h = rowsOf rowRule rule bytes (storedOf h) (h .taken) out (cleared (storedOf h .long) store)
@@ -28,7 +29,7 @@ module _ (rowRule : RowRule) (rule : SampleRule) (bytes : List ℕ) (widest high
   pub record FileRead (head : Head) (out′ : List Float) (store′ : List ℕ) : Type 0 where
     -- the header, with the count of its own bytes
     pub own : Head
-    pub header : headerOf bytes widest highest ≡ done own
+    pub header : headerOf reading bytes widest highest ≡ done own
     pub checks : Passed (frameChecks own out store)
     pub rows : rowsBy own ≡ (done (head .taken), out′, store′)
     pub said : taking own (head .taken) ≡ head
@@ -45,22 +46,22 @@ module _ (rowRule : RowRule) (rule : SampleRule) (bytes : List ℕ) (widest high
         headOf (refused n q) = h
     framed-done h (refused n q, o, s) e = refused-done n q head o out′ s store′ e
 
-    by-header : (a : Answer Head) → headerOf bytes widest highest ≡ a → readBy rowRule rule bytes widest highest out store ≡ (done head, out′, store′) → FileRead head out′ store′
+    by-header : (a : Answer Head) → headerOf reading bytes widest highest ≡ a → readBy reading rowRule rule bytes widest highest out store ≡ (done head, out′, store′) → FileRead head out′ store′
     unfolding frameAnswer
     by-header (refused n p) eh e =
-        refused-done n p head out out′ store store′ (read-refused rowRule rule bytes widest highest out store (Refused (record { number = n; place = p })) (sym eh) (record { number = n; place = p }) refl ∙ e)
+        refused-done n p head out out′ store store′ (read-refused reading rowRule rule bytes widest highest out store (Refused (record { number = n; place = p })) (sym eh) (record { number = n; place = p }) refl ∙ e)
     by-header (done h) eh e =
         let through = passed-by (λ n. (refuse n, out, store)) (frameChecks h out store) (framed h (rowsBy h)) (done head, out′, store′) (λ n k. refused-done n 0 head out out′ store store′ k)
-        (read-frame rowRule rule bytes widest highest out store (Read h) (sym eh) h _ refl refl ∙ e) in
+        (read-frame reading rowRule rule bytes widest highest out store (Read h) (sym eh) h _ refl refl ∙ e) in
         let left = framed-done h (rowsBy h) (through .1) in
         record { own = h; header = eh; checks = through .0; rows = left .0; said = left .1 }
 
-    pub file-read : readBy rowRule rule bytes widest highest out store ≡ (done head, out′, store′) → FileRead head out′ store′
-    file-read = by-header (headerOf bytes widest highest) refl
+    pub file-read : readBy reading rowRule rule bytes widest highest out store ≡ (done head, out′, store′) → FileRead head out′ store′
+    file-read = by-header (headerOf reading bytes widest highest) refl
 
-    pub read-file : FileRead head out′ store′ → readBy rowRule rule bytes widest highest out store ≡ (done head, out′, store′)
+    pub read-file : FileRead head out′ store′ → readBy reading rowRule rule bytes widest highest out store ≡ (done head, out′, store′)
     unfolding frameAnswer
     read-file f =
         let h = f .own in
-        sym (read-frame rowRule rule bytes widest highest out store (Read h) (sym (f .header)) h _ refl refl) ∙ pass (λ n. (refuse n, out, store)) (frameChecks h out store) (framed h (rowsBy h)) (f .checks)
+        sym (read-frame reading rowRule rule bytes widest highest out store (Read h) (sym (f .header)) h _ refl refl) ∙ pass (λ n. (refuse n, out, store)) (frameChecks h out store) (framed h (rowsBy h)) (f .checks)
         ∙ ap (framed h) (f .rows) ∙ ap (λ (x : Head). (done x, out′, store′)) (f .said)

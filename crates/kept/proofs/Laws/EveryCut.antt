@@ -50,7 +50,7 @@ module _ (bytes : List ℕ) (m : ℕ) (short : m ≤ length bytes) where
   to-whole = (omega (arith, cut-long), short, sym (take-take m m bytes (omega arith)))
 
 module _ (bytes : List ℕ) (m widest highest : ℕ) (out out′ : List Float) (store store′ : List ℕ) (head : Head)
-    (f : FileRead documentRow documentPixel bytes widest highest out store head out′ store′) (holds : f .own .taken ≤ m) (shorter : m < head .taken) where
+    (f : FileRead Document documentRow documentPixel bytes widest highest out store head out′ store′) (holds : f .own .taken ≤ m) (shorter : m < head .taken) where
   abbrev own : Head
   own = f .own
 
@@ -141,13 +141,13 @@ module _ (bytes : List ℕ) (m widest highest : ℕ) (out out′ : List Float) (
 
   -- ---- The answer
 
-  header-there : headerOf begin widest highest ≡ done own
-  header-there = header-alone bytes begin m widest highest own (to-cut bytes m short) (f .header) (holds, omega (arith, there .1))
+  header-there : headerOf Document begin widest highest ≡ done own
+  header-there = header-alone Document bytes begin m widest highest own (to-cut bytes m short) (f .header) (holds, omega (arith, there .1))
 
   answered : readOf Document begin widest highest out store ≡ framed own rows
   unfolding frameAnswer
   answered =
-      sym (read-frame documentRow documentPixel begin widest highest out store (Read own) (sym header-there) own _ refl refl) ∙ pass (λ n. (refuse n, out, store)) (frameChecks own out store) (framed own rows) (f .checks)
+      sym (read-frame Document documentRow documentPixel begin widest highest out store (Read own) (sym header-there) own _ refl refl) ∙ pass (λ n. (refuse n, out, store)) (frameChecks own out store) (framed own rows) (f .checks)
 
   abbrev Ended : Left → Type 0
   Ended z = RowsLeft documentRow documentPixel begin stored (own .taken) out begun (z .0) (z .1) (z .2)
@@ -181,7 +181,7 @@ module _ (bytes : List ℕ) (m widest highest : ℕ) (out out′ : List Float) (
 
 pub every-cut : EveryCut
 every-cut bytes m widest highest out out′ store store′ head own e header holds shorter =
-    let f = file-read documentRow documentPixel bytes widest highest out store head out′ store′ e in
+    let f = file-read Document documentRow documentPixel bytes widest highest out store head out′ store′ e in
     let both : _≡_ {A = Answer Head} (done (f .own)) (done own) = sym (f .header) ∙ header in
     let same : f .own ≡ own = cc in
     subst (λ (h : Head). (k : ℕ) × CutIn bytes h store m k × RefusedIn bytes h out store k (readOf Document (take m bytes) widest highest out store)) same

@@ -9,13 +9,14 @@ use lib.Ieee.{Float}
 use lib.ListN.{length, replicate, length-append}
 use Rattle.steps.specs.Place.{bytesFrom, spread}
 use Rattle.steps.specs.Answer.{Answer, done}
+use Rattle.steps.specs.declared.Reading.{Reading}
 use Rattle.steps.specs.declared.Taken.the-variants.{Done}
 use Rattle.steps.proofs.Laws.Loop.{Runs}
 use Rattle.steps.proofs.Laws.Place.{length-spread, spread-then}
 use Rattle.header.specs.declared.Head.{Head}
 use Rattle.header.specs.declared.HeadAnswer.the-variants.{Read}
 use Rattle.header.specs.Head.{limit, head, headerOf}
-use Rattle.header.specs.Written.{written}
+use Rattle.header.specs.Written.{written, writtenSaid}
 use Rattle.back.proofs.Laws.Header.{header-back}
 use Rattle.flat_read.specs.Flat.{isRepeat}
 use Rattle.rows_read.specs.Row.{RowRule}
@@ -64,14 +65,14 @@ module _ (rule : SampleRule) where
 -- ---- The rows, by such a rule and any rule for a pixel
 
 -- what the header of a frame says
-abbrev said : ℕ → ℕ → Head
-said w h = head w h (length (written w h))
+abbrev said : Reading → ℕ → ℕ → Head
+said reading w h = head (writtenSaid reading) w h (length (written w h))
 
-module _ (rowRule : RowRule) (rule : SampleRule) (back : RowsBack rowRule) where
+module _ (reading : Reading) (rowRule : RowRule) (rule : SampleRule) (back : RowsBack rowRule) where
   module _ (bytes px : List ℕ) (w h : ℕ) where
     -- the rows from a place and a row on give a
     abbrev Gives : ℕ → ℕ → List ℕ → List Float → reader.Left → Type 0
-    Gives at row store out a = Runs (reader.rowTurn rowRule rule bytes (reader.storedOf (said w h))) reader.noRows (h - row) (reader.rows at row store out) a
+    Gives at row store out a = Runs (reader.rowTurn rowRule rule bytes (reader.storedOf (said reading w h))) reader.noRows (h - row) (reader.rows at row store out) a
 
     row-read : (pre store others : List ℕ) (at : ℕ) → Ordinary px at w w → bytes ≡ pre ++ (writtenRow px at w ++ others)
         → (Done (length pre + length (writtenRow px at w)), spread 1 store 0 (bytesFrom px at (4 * w))) ≡ rowRule bytes (length pre) store w
@@ -86,7 +87,7 @@ module _ (rowRule : RowRule) (rule : SampleRule) (back : RowsBack rowRule) where
         let step = step-done rowRule rule w (row * w) bytes (length pre) out store (Done next) _ (row-read pre store others at none e) next (3 * (row * w)) _ refl refl
         (ap (spread 1 out (3 * (row * w))) (sym (samples-stored rule px store at w room))) in
         rw (length-append pre (writtenRow px at w))
-        (rows-again rowRule rule bytes (reader.storedOf (said w h)) (length pre) row store out a r more (Done next) _ _ step next refl)
+        (rows-again rowRule rule bytes (reader.storedOf (said reading w h)) (length pre) row store out a r more (Done next) _ _ step next refl)
 
     -- n rows, whose bytes stand after `pre`
     rows-there : (rest : List ℕ) (n row at : ℕ) (pre store : List ℕ) (out : List Float) (a : reader.Left)
@@ -94,7 +95,7 @@ module _ (rowRule : RowRule) (rule : SampleRule) (back : RowsBack rowRule) where
         → (a .0 ≡ done (length pre + length (writtenRows px at w n))) × (a .1 ≡ spread 1 out (3 * (row * w)) (samplesFrom rule px at (n * w)))
     unfolding writtenRows
     rows-there rest zero row at pre store out a e none room count r =
-        let end = rows-done rowRule rule bytes (reader.storedOf (said w h)) (length pre) row store out a r (omega arith) in
+        let end = rows-done rowRule rule bytes (reader.storedOf (said reading w h)) (length pre) row store out a r (omega arith) in
         let size : length pre ≡ length pre + 0 = omega arith in
         (sym (ap (λ (z : reader.Left). z .0) end) ∙ ap done size, sym (ap (λ (z : reader.Left). z .1) end) ∙ no-samples rule px at w (3 * (row * w)) out)
     rows-there rest (suc n) row at pre store out a e none room count r =
@@ -125,21 +126,21 @@ module _ (rowRule : RowRule) (rule : SampleRule) (back : RowsBack rowRule) where
     frame-size = sym (length-append (written w h) (writtenRows px 0 w h))
 
     module _ (some : 0 < w) (wide : w ≤ limit widest) (high : h ≤ limit highest) (room : h * (3 * w) ≤ length out) (row : 4 * w ≤ length store) where
-      by-rows : framed (said w h) (reader.rowsOf rowRule rule bytes (reader.storedOf (said w h)) (length (written w h)) out (reader.cleared w store)) ≡ readBy rowRule rule bytes widest highest out store
+      by-rows : framed (said reading w h) (reader.rowsOf rowRule rule bytes (reader.storedOf (said reading w h)) (length (written w h)) out (reader.cleared w store)) ≡ readBy reading rowRule rule bytes widest highest out store
       by-rows =
-          let header : headerOf bytes widest highest ≡ done (said w h) =
-          ap (λ (l : List ℕ). headerOf l widest highest) split ∙ header-back w h (writtenRows px 0 w h ++ rest) widest highest wide high in
-          read-frame rowRule rule bytes widest highest out store (Read (said w h)) (sym header) (said w h) _ refl
-          (frame-rows rowRule rule bytes (said w h) out store room (λ e. omega arith) (reader.cleared w store) _ row refl refl)
+          let header : headerOf reading bytes widest highest ≡ done (said reading w h) =
+          ap (λ (l : List ℕ). headerOf reading l widest highest) split ∙ header-back w h (writtenRows px 0 w h ++ rest) reading widest highest wide high in
+          read-frame reading rowRule rule bytes widest highest out store (Read (said reading w h)) (sym header) (said reading w h) _ refl
+          (frame-rows rowRule rule bytes (said reading w h) out store room (λ e. omega arith) (reader.cleared w store) _ row refl refl)
 
       pub frame-back : Ordinary px 0 w (h * w)
-          → (readBy rowRule rule bytes widest highest out store .0 ≡ done (head w h (length (frameOf px w h))))
-          × (readBy rowRule rule bytes widest highest out store .1 ≡ spread 1 out 0 (samplesFrom rule px 0 (h * w)))
+          → (readBy reading rowRule rule bytes widest highest out store .0 ≡ done (head (writtenSaid reading) w h (length (frameOf px w h))))
+          × (readBy reading rowRule rule bytes widest highest out store .1 ≡ spread 1 out 0 (samplesFrom rule px 0 (h * w)))
       frame-back none =
           let room′ : 4 * w ≤ length (reader.cleared w store) = omega (arith, length-spread 1 store 0 (replicate (4 * w) 0)) in
           let there = rows-there bytes px w h rest h 0 0 (written w h) (reader.cleared w store) out _ split none room′ (omega arith)
-          (rows-start rowRule rule bytes (reader.storedOf (said w h)) (length (written w h)) out (reader.cleared w store)) in
+          (rows-start rowRule rule bytes (reader.storedOf (said reading w h)) (length (written w h)) out (reader.cleared w store)) in
           let start : 3 * (0 * w) ≡ 0 = omega (arith, zero-mul w) in (
-            sym (ap (λ (z : Answer Head × List Float × List ℕ). z .0) by-rows) ∙ ap (answerOf (said w h)) (there .0) ∙ ap (λ (n : ℕ). done (head w h n)) frame-size,
+            sym (ap (λ (z : Answer Head × List Float × List ℕ). z .0) by-rows) ∙ ap (answerOf (said reading w h)) (there .0) ∙ ap (λ (n : ℕ). done (head (writtenSaid reading) w h n)) frame-size,
             sym (ap (λ (z : Answer Head × List Float × List ℕ). z .1) by-rows) ∙ there .1 ∙ ap (λ (p : ℕ). spread 1 out p (samplesFrom rule px 0 (h * w))) start,
           )

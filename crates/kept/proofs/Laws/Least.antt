@@ -237,13 +237,13 @@ module _ (rule : SampleRule) (bytes : List ℕ) (are : AreBytes bytes) (stored :
 -- ---- The whole file
 
 -- a file that is read, by any rule for a pixel: at least so many bytes are taken after its header, and all that are taken are there
-pub least-read : (rule : SampleRule) (bytes : List ℕ) → AreBytes bytes → (widest highest : ℕ) (out : List Float) (store : List ℕ) (head a : Head) → headerOf bytes widest highest ≡ done head
-    → readBy crateRow rule bytes widest highest out store .0 ≡ done a → (head .taken + leastOf (head .width) (head .height) ≤ a .taken) × (a .taken ≤ length bytes)
+pub least-read : (rule : SampleRule) (bytes : List ℕ) → AreBytes bytes → (widest highest : ℕ) (out : List Float) (store : List ℕ) (head a : Head) → headerOf Crate bytes widest highest ≡ done head
+    → readBy Crate crateRow rule bytes widest highest out store .0 ≡ done a → (head .taken + leastOf (head .width) (head .height) ≤ a .taken) × (a .taken ≤ length bytes)
 least-read rule bytes are widest highest out store head a e f =
-    let answer = readBy crateRow rule bytes widest highest out store in
-    let r = file-read crateRow rule bytes widest highest out store a (answer .1) (answer .2) (ap (λ (z : Answer Head). (z, answer .1, answer .2)) f) in
+    let answer = readBy Crate crateRow rule bytes widest highest out store in
+    let r = file-read Crate crateRow rule bytes widest highest out store a (answer .1) (answer .2) (ap (λ (z : Answer Head). (z, answer .1, answer .2)) f) in
     let h = r .own in
     let both : _≡_ {A = Answer Head} (done h) (done head) = sym (r .header) ∙ e in
     let is : h ≡ head = cc in
-    let took = rows-took rule bytes are (storedOf h) (h .taken) (header-within bytes widest highest h (r .header)) out (cleared (storedOf h .long) store) in
+    let took = rows-took rule bytes are (storedOf h) (h .taken) (header-within Crate bytes widest highest h (r .header)) out (cleared (storedOf h .long) store) in
     subst (λ (x : Head). (x .taken + leastOf (x .width) (x .height) ≤ a .taken) × (a .taken ≤ length bytes)) is (took .upto (a .taken) (ap (λ (z : Left). z .0) (r .rows)))

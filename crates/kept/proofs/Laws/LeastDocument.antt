@@ -208,10 +208,10 @@ rows-took bytes are long at store w (suc n) read =
     let this = row-took bytes are (x .0) (x .1) long w (before documentRow bytes long at store (suc n) .0) (rw add-one at (read n (omega arith))) in
     omega (arith, suc-mul n (rowLeast long))
 
-pub document-least : (bytes : List ℕ) → AreBytes bytes → (widest highest : ℕ) (out out′ : List Float) (store store′ : List ℕ) (own head : Head) → headerOf bytes widest highest ≡ done own
+pub document-least : (bytes : List ℕ) → AreBytes bytes → (widest highest : ℕ) (out out′ : List Float) (store store′ : List ℕ) (own head : Head) → headerOf Document bytes widest highest ≡ done own
     → readOf Document bytes widest highest out store ≡ (done head, out′, store′) → own .taken + documentLeast (own .width) (own .height) ≤ head .taken
 document-least bytes are widest highest out out′ store store′ own head header e =
-    let f = file-read documentRow documentPixel bytes widest highest out store head out′ store′ e in
+    let f = file-read Document documentRow documentPixel bytes widest highest out store head out′ store′ e in
     let both : _≡_ {A = Answer Head} (done (f .own)) (done own) = sym (f .header) ∙ header in
     let same : f .own ≡ own = cc in
     let rows = rows-there Document bytes widest highest out out′ store store′ head f in

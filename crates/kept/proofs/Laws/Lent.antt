@@ -22,7 +22,7 @@ use Rattle.steps.proofs.Laws.Loop.{Runs}
 use Rattle.steps.proofs.Laws.Place.{length-spread}
 use Rattle.pixel.specs.declared.Pixel.{Pixel}
 use Rattle.header.specs.declared.Head.{Head}
-use Rattle.header.specs.Head.{headChecks, fieldsOf, headOf, taking}
+use Rattle.header.specs.Head.{headChecks, headIn, taking}
 use Rattle.steps.specs.declared.Reading.{Reading}
 use Rattle.rows_read.specs.Row.{RowRule, rowOf}
 use Rattle.rows_read.proofs.Laws.Kept.{Kept, kept-same, kept-then, kept-spread}
@@ -279,7 +279,7 @@ module _ (rowRule : RowRule) (rule : SampleRule) (bytes : List ℕ) (stored : St
 pub cleared-kept : (long : ℕ) (store : List ℕ) → Kept (4 * long) store (cleared long store)
 cleared-kept long store = kept-spread (4 * long) 1 store 0 (replicate (4 * long) 0) (omega (arith, length-replicate {A = ℕ} (4 * long) 0))
 
--- ---- The checks 1 to 8
+-- ---- The checks before the rows
 
 -- one of the checks is the first that fails, or all pass
 fails-or-passed : (checks : List Check) → ((n : ℕ) × FirstFails n checks) ⊎ Passed checks
@@ -298,50 +298,50 @@ passed-right (check number fails ∷ cs) ds p = passed-right cs ds (p .1)
 
 -- ---- The whole reader
 
-module _ (rowRule : RowRule) (rule : SampleRule) (bytes : List ℕ) (widest highest : ℕ) (out : List Float) (store : List ℕ) where
+module _ (reading : Reading) (rowRule : RowRule) (rule : SampleRule) (bytes : List ℕ) (widest highest : ℕ) (out : List Float) (store : List ℕ) where
   abbrev head : Head
-  head = headOf (fieldsOf bytes)
+  head = headIn reading bytes
 
   abbrev left : Left
   left = rowsOf rowRule rule bytes (storedOf head) (head .taken) out (cleared (storedOf head .long) store)
 
-  at-once : (n : ℕ) → FirstFails n (earlyChecks bytes widest highest out store) → readBy rowRule rule bytes widest highest out store ≡ (refuse n, out, store)
+  at-once : (n : ℕ) → FirstFails n (earlyChecks reading bytes widest highest out store) → readBy reading rowRule rule bytes widest highest out store ≡ (refuse n, out, store)
   unfolding readBy
-  at-once n f = fails-answers (λ m. (refuse m, out, store)) (earlyChecks bytes widest highest out store) (framed head left) n f
+  at-once n f = fails-answers (λ m. (refuse m, out, store)) (earlyChecks reading bytes widest highest out store) (framed head left) n f
 
-  by-rows : Passed (earlyChecks bytes widest highest out store) → readBy rowRule rule bytes widest highest out store ≡ framed head left
+  by-rows : Passed (earlyChecks reading bytes widest highest out store) → readBy reading rowRule rule bytes widest highest out store ≡ framed head left
   unfolding readBy
-  by-rows p = pass (λ m. (refuse m, out, store)) (earlyChecks bytes widest highest out store) (framed head left) p
+  by-rows p = pass (λ m. (refuse m, out, store)) (earlyChecks reading bytes widest highest out store) (framed head left) p
 
-  frame-left : SoundRow rowRule → Passed (earlyChecks bytes widest highest out store) → FrameLeft rowRule rule bytes head out store left
+  frame-left : SoundRow rowRule → Passed (earlyChecks reading bytes widest highest out store) → FrameLeft rowRule rule bytes head out store left
   frame-left sound p =
-      let room : head .height * (3 * head .width) ≤ length out = ltb-false (length out) _ (passed-right (headChecks bytes widest highest) (frameChecks head out store) p .0) in
+      let room : head .height * (3 * head .width) ≤ length out = ltb-false (length out) _ (passed-right (headChecks reading bytes widest highest) (frameChecks head out store) p .0) in
       let there = rows-left rowRule rule bytes (storedOf head) (head .taken) (cleared (storedOf head .long) store) (stored-apart head) out (stored-inside head (length out) room) in
       let kept = kept-then (cleared-kept (storedOf head .long) store) (rows-kept rowRule rule bytes (storedOf head) (head .taken) (cleared (storedOf head .long) store) sound out (left .0) (left .1) (left .2) there) in
       record { rows = there; row-store = record { size = kept .long; beyond = kept .beyond } }
 
-  pub lent-left-by : SoundRow rowRule → ReadLeft rowRule rule bytes widest highest out store
+  pub lent-left-by : SoundRow rowRule → ReadLeft reading rowRule rule bytes widest highest out store
   lent-left-by sound = record {
     early = at-once;
-    later = λ none. ⊎-elim (λ f. absurd (none (f .0) (f .1))) (λ p. (left, by-rows p, frame-left sound p)) (fails-or-passed (earlyChecks bytes widest highest out store));
+    later = λ none. ⊎-elim (λ f. absurd (none (f .0) (f .1))) (λ p. (left, by-rows p, frame-left sound p)) (fails-or-passed (earlyChecks reading bytes widest highest out store));
   }
 
 -- ---- Either reading
 
-pub lent-left : (reading : Reading) (bytes : List ℕ) (widest highest : ℕ) (out : List Float) (store : List ℕ) → ReadLeft (rowOf reading) (pixelBy reading) bytes widest highest out store
-lent-left reading bytes widest highest out store = lent-left-by (rowOf reading) (pixelBy reading) bytes widest highest out store (reading-sound reading)
+pub lent-left : (reading : Reading) (bytes : List ℕ) (widest highest : ℕ) (out : List Float) (store : List ℕ) → ReadLeft reading (rowOf reading) (pixelBy reading) bytes widest highest out store
+lent-left reading bytes widest highest out store = lent-left-by reading (rowOf reading) (pixelBy reading) bytes widest highest out store (reading-sound reading)
 
 -- a read that is done leaves everything beyond the frame's samples as lent
 pub lent-done : (reading : Reading) (bytes : List ℕ) (widest highest : ℕ) (out : List Float) (store : List ℕ) (head : Head) → readOf reading bytes widest highest out store .0 ≡ done head
     → Beyond (3 * (head .width * head .height)) out (readOf reading bytes widest highest out store .1)
 lent-done reading bytes widest highest out store head e =
     ⊎-elim
-    (λ f. absurd (differ head (f .0) 0 (sym e ∙ ap (λ (z : Answer Head × List Float × List ℕ). z .0) (at-once (rowOf reading) (pixelBy reading) bytes widest highest out store (f .0) (f .1)))))
-    (λ p. let is = by-rows (rowOf reading) (pixelBy reading) bytes widest highest out store p in
-    let z : Left = left (rowOf reading) (pixelBy reading) bytes widest highest out store in
+    (λ f. absurd (differ head (f .0) 0 (sym e ∙ ap (λ (z : Answer Head × List Float × List ℕ). z .0) (at-once reading (rowOf reading) (pixelBy reading) bytes widest highest out store (f .0) (f .1)))))
+    (λ p. let is = by-rows reading (rowOf reading) (pixelBy reading) bytes widest highest out store p in
+    let z : Left = left reading (rowOf reading) (pixelBy reading) bytes widest highest out store in
     subst (Beyond (3 * (head .width * head .height)) out) (sym (ap (λ (z : Answer Head × List Float × List ℕ). z .1) is))
-    (by-answer (headOf (fieldsOf bytes)) (z .0) (z .1) (z .2) (sym (ap (λ (z : Answer Head × List Float × List ℕ). z .0) is) ∙ e) (frame-left (rowOf reading) (pixelBy reading) bytes widest highest out store (reading-sound reading) p .rows)))
-    (fails-or-passed (earlyChecks bytes widest highest out store))
+    (by-answer (headIn reading bytes) (z .0) (z .1) (z .2) (sym (ap (λ (z : Answer Head × List Float × List ℕ). z .0) is) ∙ e) (frame-left reading (rowOf reading) (pixelBy reading) bytes widest highest out store (reading-sound reading) p .rows)))
+    (fails-or-passed (earlyChecks reading bytes widest highest out store))
   where
     by-answer : (h : Head) (a : Answer ℕ) (o : List Float) (s : List ℕ) → answerOf h a ≡ done head
         → RowsLeft (rowOf reading) (pixelBy reading) bytes (storedOf h) (h .taken) out (cleared (storedOf h .long) store) a o s → Beyond (3 * (head .width * head .height)) out o

@@ -12,7 +12,7 @@ use Rattle.steps.specs.Answer.{Answer, done, refused, refuse, Check, check, che
 use Rattle.steps.specs.Numbered.{numberOf, firstOf, Exactly}
 use Rattle.steps.proofs.Laws.Numbered.{number-checked, first-append, exactly, checked-of}
 use Rattle.header.specs.declared.Head.{Head}
-use Rattle.header.specs.Head.{headChecks, headerOf, fieldsOf, headOf}
+use Rattle.header.specs.Head.{headChecks, headerOf, headIn}
 use Rattle.steps.specs.declared.Reading.{Reading}
 use Rattle.rows_read.specs.Row.{RowRule, rowOf, RowFault}
 use Rattle.reader.specs.Samples.{SampleRule}
@@ -25,16 +25,16 @@ use Rattle.writer.specs.Write as writer
 use Rattle.writer.specs.Write.{sizeChecks, brightChecked, stored, lengthOf, length4Of, worstAnswer, writeOf, write4Of}
 use Rattle.kept.specs.Numbered.{readChecks, lengthChecks, writeChecks, write4Checks}
 
--- `header::read`: 1 to 5
-pub header-numbered : (bytes : List ℕ) (widest highest : ℕ) → Exactly (headChecks bytes widest highest) (numberOf (headerOf bytes widest highest))
+-- `header::read`: 1, 15 or 16, and 2 to 5
+pub header-numbered : (reading : Reading) (bytes : List ℕ) (widest highest : ℕ) → Exactly (headChecks reading bytes widest highest) (numberOf (headerOf reading bytes widest highest))
 unfolding headerOf
-header-numbered bytes widest highest = exactly (headChecks bytes widest highest) _ (number-checked (headChecks bytes widest highest) (done (headOf (fieldsOf bytes))))
+header-numbered reading bytes widest highest = exactly (headChecks reading bytes widest highest) _ (number-checked (headChecks reading bytes widest highest) (done (headIn reading bytes)))
 
 -- ---- The reader, by any rule for a row and for a pixel
 
-module _ (rowRule : RowRule) (rule : SampleRule) (bytes : List ℕ) (widest highest : ℕ) (out : List Float) (store : List ℕ) where
+module _ (reading : Reading) (rowRule : RowRule) (rule : SampleRule) (bytes : List ℕ) (widest highest : ℕ) (out : List Float) (store : List ℕ) where
   head : Head
-  head = headOf (fieldsOf bytes)
+  head = headIn reading bytes
 
   rows : Answer ℕ × List Float × List ℕ
   rows = rowsOf rowRule rule bytes (storedOf head) (head .taken) out (cleared (storedOf head .long) store)
@@ -44,10 +44,10 @@ module _ (rowRule : RowRule) (rule : SampleRule) (bytes : List ℕ) (widest high
   same-number h (done n) = refl
   same-number h (refused n p) = refl
 
-  read-number : numberOf (readBy rowRule rule bytes widest highest out store .0) ≡ firstOf (readChecks rowRule rule bytes widest highest out store) 0
+  read-number : numberOf (readBy reading rowRule rule bytes widest highest out store .0) ≡ firstOf (readChecks reading rowRule rule bytes widest highest out store) 0
   unfolding readBy readChecks head rows
   read-number =
-      let cs = headChecks bytes widest highest in
+      let cs = headChecks reading bytes widest highest in
       let ds = frameChecks head out store in
       ap numberOf (checked-of (λ (z : Answer Head × List Float × List ℕ). z .0) (λ n. (refuse n, out, store)) (cs ++ ds) (framed head rows))
       ∙ number-checked (cs ++ ds) (answerOf head (rows .0))
@@ -56,13 +56,13 @@ module _ (rowRule : RowRule) (rule : SampleRule) (bytes : List ℕ) (widest high
       ∙ ap (firstOf cs) (sym (first-append ds (faultOf (rows .0) ∷ []) 0))
       ∙ sym (first-append cs (ds ++ faultOf (rows .0) ∷ []) 0)
 
-  pub read-numbered-by : Exactly (readChecks rowRule rule bytes widest highest out store) (numberOf (readBy rowRule rule bytes widest highest out store .0))
-  read-numbered-by = exactly (readChecks rowRule rule bytes widest highest out store) _ read-number
+  pub read-numbered-by : Exactly (readChecks reading rowRule rule bytes widest highest out store) (numberOf (readBy reading rowRule rule bytes widest highest out store .0))
+  read-numbered-by = exactly (readChecks reading rowRule rule bytes widest highest out store) _ read-number
 
--- `reader::read`: 1 to 8, and the number of a row
+-- `reader::read`: 1, 15 or 16, 2 to 8, and the number of a row
 pub read-numbered : (reading : Reading) (bytes : List ℕ) (widest highest : ℕ) (out : List Float) (store : List ℕ)
-    → Exactly (readChecks (rowOf reading) (pixelBy reading) bytes widest highest out store) (numberOf (readOf reading bytes widest highest out store .0))
-read-numbered reading = read-numbered-by (rowOf reading) (pixelBy reading)
+    → Exactly (readChecks reading (rowOf reading) (pixelBy reading) bytes widest highest out store) (numberOf (readOf reading bytes widest highest out store .0))
+read-numbered reading = read-numbered-by reading (rowOf reading) (pixelBy reading)
 
 -- the check of a reading's rows is 9, or 25 or 14, where it fails
 pub fault-known : (reading : Reading) (rule : SampleRule) (bytes : List ℕ) (stored : Stored) (at : ℕ) (out : List Float) (store : List ℕ)

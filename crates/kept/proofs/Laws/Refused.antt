@@ -11,7 +11,7 @@ use Rattle.steps.specs.declared.refusal.Refusal.{Refusal}
 use Rattle.steps.proofs.Laws.Answer.{differ}
 use Rattle.steps.proofs.Laws.Turns.{by-test}
 use Rattle.header.specs.declared.Head.{Head}
-use Rattle.header.specs.Head.{headChecks, fieldsOf, headOf}
+use Rattle.header.specs.Head.{headChecks, headIn}
 use Rattle.steps.specs.declared.Reading.{Reading}
 use Rattle.rows_read.specs.Row.{rowOf, RowFault}
 use Rattle.reader.specs.Frame.{storedOf, cleared, rowsOf}
@@ -49,9 +49,9 @@ module _ (reading : Reading) (bytes : List ℕ) (widest highest : ℕ) (out : Li
   same : Same (readOf reading bytes widest highest out store)
   unfolding readBy
   same =
-      let head = headOf (fieldsOf bytes) in
+      let head = headIn reading bytes in
       let rows = rowsOf (rowOf reading) (pixelBy reading) bytes (storedOf head) (head .taken) out (cleared (storedOf head .long) store) in
-      every Same (λ n. (refuse n, out, store)) (headChecks bytes widest highest ++ frameChecks head out store) (framed head rows) (λ m n k e not. (refl, refl))
+      every Same (λ n. (refuse n, out, store)) (headChecks reading bytes widest highest ++ frameChecks head out store) (framed head rows) (λ m n k e not. (refl, refl))
       (by-rows head (rows .0) (rows .1) (rows .2) (λ number row e. rows-number reading (pixelBy reading) bytes (storedOf head) (head .taken) out (cleared (storedOf head .long) store) number row e))
 
   pub read-refused-same : (refusal : Refusal) (out′ : List Float) (store′ : List ℕ) → ReadPromise reading bytes widest highest out store (read.Refused refusal) out′ store′

@@ -55,7 +55,7 @@ enough = record { wide = lit≤ tt; high = lit≤ tt; room = lit≤ tt; row = li
 
 -- a pixel that comes back as another which is not within a step of it
 not-back : (x : Float) (back : Pixel) (n : ℕ) → pixelOf crateUnits (bytesOf (pixel (oneRed x) 0)) ≡ back → Lies (pixel (oneRed x) 0) n → (Kept (Below n) x (back .r) → ⊥)
-    → ComesBack Below crateRow cratePixel 1 1 (oneRed x) → ⊥
+    → ComesBack Below Crate crateRow cratePixel 1 1 (oneRed x) → ⊥
 not-back x back n is lies apart all =
     let there = pixels-back Crate 1 1 (oneRed x) one [] 1 1 lent store enough 0 (lit< tt) ∙ is in
     apart (subst (λ (q : Pixel). Kept (Below n) x (q .r)) there (all [] 1 1 lent store enough .kept 0 n (lit< tt) lies .r))

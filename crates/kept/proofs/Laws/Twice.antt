@@ -81,7 +81,7 @@ module _ (reading : Reading) (w h : ℕ) (samples : List Float) (sizes : Sizes w
 
     -- so a call of the writer with room for the file leaves that file
     same-call : (first tail lent′ left′ : List ℕ) (again : WriteAnswer) → first ≡ fileOf samples w h ++ tail → WritePromise w h frame lent′ again left′ → length (fileOf samples w h) ≤ length lent′
-        → SameFile w h (length (fileOf samples w h)) first (left .0) lent′ again left′
+        → SameFile reading w h (length (fileOf samples w h)) first (left .0) lent′ again left′
     same-call first tail lent′ left′ again is wrote room =
         let file : List ℕ = fileOf samples w h in
         let due : writeOf w h frame lent′ ≡ (done (length file), spread 1 lent′ 0 file) =
@@ -104,8 +104,8 @@ saved-twice reading w h samples sizes all rest widest highest out store enough =
 pub calls-save-twice : (reading : Reading) (w h : ℕ) (samples : List Float) → AllTwice reading samples (w * h) → CallsSaveTwice reading w h samples
 calls-save-twice reading w h samples all lent left n wrote rest widest highest out out′ store store′ answer enough read lent′ left′ again room wrote′ =
     let told = write-told w h n samples lent left (sym wrote) in
-    by-calls (rowOf reading) (pixelBy reading) (fileOf samples w h) lent left n (told .2) rest widest highest out out′ store store′ answer read
-    (λ m z. WritePromise w h (frameIn w h (z .1)) lent′ again left′ → m ≤ length lent′ → SameFile w h m left (z .0) lent′ again left′)
+    by-calls reading (rowOf reading) (pixelBy reading) (fileOf samples w h) lent left n (told .2) rest widest highest out out′ store store′ answer read
+    (λ m z. WritePromise w h (frameIn w h (z .1)) lent′ again left′ → m ≤ length lent′ → SameFile reading w h m left (z .0) lent′ again left′)
     (same-call reading w h samples (sizes-passed w h (length samples) 3 (told .0)) rest widest highest out store enough all left (drop n lent) lent′ left′ again (told .2 .bytes))
     wrote′ room
 

@@ -101,12 +101,12 @@ module _ (bytes : List ℕ) (stored : Stored) (some : 0 < stored .long) where
 pub whole-or-cut : WholeOrCut
 unfolding rowsOf
 whole-or-cut bytes widest highest out out′ store store′ head e high =
-    let f = file-read crateRow cratePixel bytes widest highest out store head out′ store′ e in
+    let f = file-read Crate crateRow cratePixel bytes widest highest out store head out′ store′ e in
     let h = f .own in
     let stored = storedOf h in
     let count : h .height ≡ head .height = ap (λ (x : Head). x .height) (f .said) in
     let wide : 0 < h .width = omega (arith, eqb-false (h .width) 0 (f .checks .1 .0)) in
-    let inside = header-within bytes widest highest h (f .header) in
+    let inside = header-within Crate bytes widest highest h (f .header) in
     let x = rows (h .taken) 0 (cleared (stored .long) store) out in
     let begun : h .taken < length bytes = by-order (h .taken) (length bytes) (λ l. l) (λ l. absurd (omega (arith, at-end bytes stored wide (stored .count + 1) x (head .taken) out′ store′ inside (f .rows) l))) in
     ⊎-elim
@@ -126,9 +126,9 @@ whole-or-cut bytes widest highest out out′ store store′ head e high =
       short,
     ))
     (λ same. inr (λ rest.
-    read-file crateRow cratePixel (bytes ++ rest) widest highest out store head out′ store′ (record {
+    read-file Crate crateRow cratePixel (bytes ++ rest) widest highest out store head out′ store′ (record {
       own = h;
-      header = header-alone bytes (bytes ++ rest) (length bytes) widest highest h (front-alike bytes rest) (f .header) (omega arith, omega arith);
+      header = header-alone Crate bytes (bytes ++ rest) (length bytes) widest highest h (front-alike bytes rest) (f .header) (omega arith, omega arith);
       checks = f .checks;
       rows = same rest;
       said = f .said;
