@@ -3,9 +3,9 @@ use Prim.Native.Nat.{ℕ, _/_, _^_, _≤_, _<_}
 use mathlib.Core.Logic.{_⊎_}
 use mathlib.Core.Path.{_≡_}
 
--- n has at most a hundred digits
+-- n has at most 112 digits
 unfoldable pub Short : ℕ → Type 0
-Short n = n < 10 ^ 100
+Short n = n < 10 ^ 112
 
 -- n is `lead` and `more` digits after it, which are cut off; lead has nine digits, or all that there are
 pub record Leads (n lead more : ℕ) : Type 0 where

@@ -13,16 +13,16 @@ pub struct Lead {
 
 // A digit times b, and c more.
 fn carry(d: u8, b: usize, c: usize) -> usize
-    requires { ⌜ (b ≤ 5) × (c < 512) ⌝ }
+    requires { ⌜ (b ≤ 5) × (c < 16777216) ⌝ }
     ensures { λ r. ⌜ r ≡ d * b + c ⌝ }
-    ensures { λ r. ⌜ r < 2560 ⌝ }
+    ensures { λ r. ⌜ r < 20000000 ⌝ }
 {
     d as usize * b + c
 }
 
 // Digits, the lowest first, times b, and c more.
 fn times(digits: &mut [u8], b: usize, c: usize)
-    requires { ⌜ (b ≤ 5) × (c < 512) ⌝ }
+    requires { ⌜ (b ≤ 5) × (c < 16777216) ⌝ }
     ensures { λ _. ⌜ now (digits .exit) ≡ carried b c (now (digits .entry)) ⌝ }
 {
     let mut i = 0;
@@ -57,14 +57,14 @@ fn with_digit(lead: usize, d: u8) -> usize
     lead * 10 + steps::wide(d)
 }
 
-// The first nine of a hundred digits, from the highest down; zeros before them do not count.
+// The first nine of 112 digits, from the highest down; zeros before them do not count.
 fn first(digits: &[u8]) -> Lead
-    requires { ⌜ length (now digits) ≡ 100 ⌝ }
-    ensures { λ r. ⌜ ((n : ℕ) → now (digits .entry) ≡ digitsOf 100 n → Short n → Leads n (r .digits) (r .more)) ⌝ }
-    ensures { λ r. ⌜ r .more ≤ 100 ⌝ }
+    requires { ⌜ length (now digits) ≡ 112 ⌝ }
+    ensures { λ r. ⌜ ((n : ℕ) → now (digits .entry) ≡ digitsOf 112 n → Short n → Leads n (r .digits) (r .more)) ⌝ }
+    ensures { λ r. ⌜ r .more ≤ 112 ⌝ }
 {
     let mut lead = 0;
-    let mut more: usize = 100;
+    let mut more: usize = 112;
     while 0 < more {
         if 100000000 <= lead {
             return Lead { digits: lead, more };
@@ -77,11 +77,11 @@ fn first(digits: &[u8]) -> Lead
 
 // The first nine digits of m times b^k, and how many follow.
 pub fn leading(m: usize, b: usize, k: usize) -> Lead
-    requires { ⌜ (m < 512) × (b ≤ 5) × Short (m * b ^ k) ⌝ }
+    requires { ⌜ (m < 16777216) × (b ≤ 5) × Short (m * b ^ k) ⌝ }
     ensures { λ r. ⌜ Leads (m * b ^ k) (r .digits) (r .more) ⌝ }
-    ensures { λ r. ⌜ r .more ≤ 100 ⌝ }
+    ensures { λ r. ⌜ r .more ≤ 112 ⌝ }
 {
-    let mut digits = [0u8; 100];
+    let mut digits = [0u8; 112];
     times(&mut digits, 0, m);
     times_power(&mut digits, b, k);
     first(&digits)

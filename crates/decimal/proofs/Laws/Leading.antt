@@ -37,7 +37,7 @@ unfolding carried digitsOf
 carried-none c [] = refl
 carried-none c (d ∷ ds) = rw (mul-zero, zero-add) (rw (carried-none (c / 10) ds))
 
-pub carry-most : (d b c : ℕ) → d < 256 → b ≤ 5 → c < 512 → d * b + c < 2560
+pub carry-most : (d b c : ℕ) → d < 256 → b ≤ 5 → c < 16777216 → d * b + c < 20000000
 carry-most d b c hd hb hc =
     let e : d ≤ 255 = omega arith in
     omega (arith, mul-le-mul-right b e, mul-le-mul-left 255 hb)
@@ -92,51 +92,51 @@ digit-at zero n i h = absurd (not-suc-le-zero h)
 digit-at (suc k) n zero h = omega arith
 digit-at (suc k) n (suc i) h = digit-at k (n / 10) i (omega arith) ∙ ap (λ (z : ℕ). z % 10) (div-div-eq-div-mul n 10 (10 ^ i) ∙ rw pow-succ')
 
--- the number of a hundred digits from place i on
+-- the number of 112 digits from place i on
 pub record From (ds : List ℕ) (lead i : ℕ) : Type 0 where
-  pub each : (n : ℕ) → ds ≡ digitsOf 100 n → Short n → (lead ≡ n / 10 ^ i) × (lead < 1000000000)
+  pub each : (n : ℕ) → ds ≡ digitsOf 112 n → Short n → (lead ≡ n / 10 ^ i) × (lead < 1000000000)
 
-none-above : (n : ℕ) → Short n → n / 10 ^ 100 ≡ 0
+none-above : (n : ℕ) → Short n → n / 10 ^ 112 ≡ 0
 unfolding Short
 none-above n h = div-eq-of-lt h
 
-pub from-none : (ds : List ℕ) → From ds 0 100
+pub from-none : (ds : List ℕ) → From ds 0 112
 from-none ds = record { each = λ n e h. (sym (none-above n h), lit< tt) }
 
-pub from-more : (ds : List ℕ) (lead lead′ i : ℕ) → From ds lead i → 0 < i → i ≤ 100 → lead < 100000000 → lead′ ≡ lead * 10 + getD ds (i - 1) 0 → From ds lead′ (i - 1)
+pub from-more : (ds : List ℕ) (lead lead′ i : ℕ) → From ds lead i → 0 < i → i ≤ 112 → lead < 100000000 → lead′ ≡ lead * 10 + getD ds (i - 1) 0 → From ds lead′ (i - 1)
 from-more ds lead lead′ zero f h l few is = absurd (not-suc-le-zero h)
 from-more ds lead lead′ (suc i) f h l few is = record { each = λ n e b. this n e (f .each n e b) }
   where
     step : (q d : ℕ) → lead ≡ q / 10 → d ≡ q % 10 → lead′ ≡ lead * 10 + d → (lead′ ≡ q) × (lead′ < 1000000000)
     step q d a b c = (omega arith, omega arith)
 
-    this : (n : ℕ) → ds ≡ digitsOf 100 n → (lead ≡ n / 10 ^ suc i) × (lead < 1000000000) → (lead′ ≡ n / 10 ^ (suc i - 1)) × (lead′ < 1000000000)
+    this : (n : ℕ) → ds ≡ digitsOf 112 n → (lead ≡ n / 10 ^ suc i) × (lead < 1000000000) → (lead′ ≡ n / 10 ^ (suc i - 1)) × (lead′ < 1000000000)
     this n e a =
         let z : suc i - 1 ≡ i = omega arith in
-        let digit : getD ds i 0 ≡ n / 10 ^ i % 10 = ap (λ (l : List ℕ). getD l i 0) e ∙ digit-at 100 n i l in
+        let digit : getD ds i 0 ≡ n / 10 ^ i % 10 = ap (λ (l : List ℕ). getD l i 0) e ∙ digit-at 112 n i l in
         let high : lead ≡ n / 10 ^ i / 10 = a .0 ∙ rw pow-suc (sym (div-div-eq-div-mul n (10 ^ i) 10)) in
         rw z (step (n / 10 ^ i) (getD ds i 0) high digit (rw z at is))
 
 module _ (ds : List ℕ) (lead i : ℕ) (f : From ds lead i) where
-  pub from-leads : 100000000 ≤ lead → (n : ℕ) → ds ≡ digitsOf 100 n → Short n → Leads n lead i
+  pub from-leads : 100000000 ≤ lead → (n : ℕ) → ds ≡ digitsOf 112 n → Short n → Leads n lead i
   from-leads h n e b = let a = f .each n e b in record { is = a .0; few = a .1; enough = inr h }
 
-  pub from-all : i ≤ 0 → (n : ℕ) → ds ≡ digitsOf 100 n → Short n → Leads n lead i
+  pub from-all : i ≤ 0 → (n : ℕ) → ds ≡ digitsOf 112 n → Short n → Leads n lead i
   from-all h n e b = let a = f .each n e b in record { is = a .0; few = a .1; enough = inl (omega arith) }
 
-pub power-leads : (m b k lead more : ℕ) (lent once all : List ℕ) → length lent ≡ 100 → once ≡ carried 0 m lent → all ≡ carriedTimes b k once
-    → ((n : ℕ) → all ≡ digitsOf 100 n → Short n → Leads n lead more) → Short (m * b ^ k) → Leads (m * b ^ k) lead more
+pub power-leads : (m b k lead more : ℕ) (lent once all : List ℕ) → length lent ≡ 112 → once ≡ carried 0 m lent → all ≡ carriedTimes b k once
+    → ((n : ℕ) → all ≡ digitsOf 112 n → Short n → Leads n lead more) → Short (m * b ^ k) → Leads (m * b ^ k) lead more
 power-leads m b k lead more lent once all len one is leads short =
-    leads (m * b ^ k) (is ∙ ap (carriedTimes b k) (one ∙ carried-none m lent ∙ ap (λ (L : ℕ). digitsOf L m) len) ∙ times-digits b k 100 m) short
+    leads (m * b ^ k) (is ∙ ap (carriedTimes b k) (one ∙ carried-none m lent ∙ ap (λ (L : ℕ). digitsOf L m) len) ∙ times-digits b k 112 m) short
 
--- ---- What has at most a hundred digits
+-- ---- What has at most 112 digits
 
-short : (m b j most : ℕ) → 0 < b → m < 512 → j ≤ most → 512 * b ^ most < 10 ^ 100 → Short (m * b ^ j)
+short : (m b j most : ℕ) → 0 < b → m < 16777216 → j ≤ most → 16777216 * b ^ most < 10 ^ 112 → Short (m * b ^ j)
 unfolding Short
-short m b j most some h k low = lt-of-le-of-lt (le-trans (mul-le-mul-right (b ^ j) (le-of-lt h)) (mul-le-mul-left 512 (pow-le-pow-right some k))) low
+short m b j most some h k low = lt-of-le-of-lt (le-trans (mul-le-mul-right (b ^ j) (le-of-lt h)) (mul-le-mul-left 16777216 (pow-le-pow-right some k))) low
 
-pub short-fifths : (m j : ℕ) → m < 512 → j ≤ 137 → Short (m * 5 ^ j)
-short-fifths m j h k = short m 5 j 137 (lit< tt) h k (lit< tt)
+pub short-fifths : (m j : ℕ) → m < 16777216 → j ≤ 149 → Short (m * 5 ^ j)
+short-fifths m j h k = short m 5 j 149 (lit< tt) h k (lit< tt)
 
-pub short-doubles : (m j : ℕ) → m < 512 → j ≤ 118 → Short (m * 2 ^ j)
+pub short-doubles : (m j : ℕ) → m < 16777216 → j ≤ 118 → Short (m * 2 ^ j)
 short-doubles m j h k = short m 2 j 118 (lit< tt) h k (lit< tt)

@@ -6,7 +6,7 @@ use Rattle.decimal.proofs.leading.first.Statement.{statement}
 use Rattle.decimal.proofs.leading.first.Tie as tie
 
 abbrev Inv-loop : tie.InvT-loop
-Inv-loop digits lead₀ more₀ lead more = (more ≤ 100) × From digits lead more
+Inv-loop digits lead₀ more₀ lead more = (more ≤ 112) × From digits lead more
 
 abbrev μ-loop : tie.MeasureT-loop
 μ-loop digits lead₀ more₀ lead more = more

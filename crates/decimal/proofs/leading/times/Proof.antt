@@ -11,7 +11,7 @@ use Rattle.decimal.proofs.leading.times.Statement.{statement}
 use Rattle.decimal.proofs.leading.times.Tie as tie
 
 abbrev Inv-loop : tie.InvT-loop
-Inv-loop digits₀ b c i₀ more₀ left₀ digits i more left = (i + left ≡ length digits₀) × (length digits ≡ length digits₀) × (more < 512) × (spread 1 digits i (carried b more (drop i digits)) ≡ carried b c digits₀)
+Inv-loop digits₀ b c i₀ more₀ left₀ digits i more left = (i + left ≡ length digits₀) × (length digits ≡ length digits₀) × (more < 16777216) × (spread 1 digits i (carried b more (drop i digits)) ≡ carried b c digits₀)
 
 abbrev μ-loop : tie.MeasureT-loop
 μ-loop digits₀ b c i₀ more₀ left₀ digits i more left = left
