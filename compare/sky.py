@@ -5,6 +5,7 @@ The reader, the row coder and the light below follow docs/RULES.md, and share no
 import glob
 import os
 import random
+import re
 import shutil
 import signal
 import socket
@@ -140,8 +141,58 @@ def header(width, height):
 
 
 def worst(width, height):
-    row = 4 * width if width < 8 or width > 32767 else 4 + 4 * (width + (width + 127) // 128)
-    return len(header(width, height)) + height * row
+    """The most bytes that the rows take."""
+    return height * (4 * width if width < 8 or width > 32767 else 4 + 4 * (width + (width + 127) // 128))
+
+
+# ---- RULES 3: what the lines of a header state, by the document; with --crate nothing
+
+
+def nearest(x):
+    """The f32 that is nearest to a number above 0, the even one of two; 0 where it is infinite."""
+    power = 0
+    while x >= 2 ** (power + 1):
+        power += 1
+    while x < Fraction(2) ** power and power > -126:
+        power -= 1
+    unit = Fraction(2) ** (power - 23)
+    near = round(x / unit) * unit
+    return near if near < 2**128 else Fraction(0)
+
+
+def factor(text):
+    """An exposure: 1 to 7 digits, a point or none, a power of ten or none; 0 where it cannot be read."""
+    found = re.fullmatch(rb"([0-9]*)(?:\.([0-9]*))?(?:[eE]([+-]?[0-9]{1,2}))?", text)
+    if not found:
+        return Fraction(0)
+    whole, part, power = found[1], found[2] or b"", int(found[3] or 0) - len(found[2] or b"")
+    if not 1 <= len(whole + part) <= 7 or not -10 <= power <= 10 or int(whole + part) == 0:
+        return Fraction(0)
+    return nearest(int(whole + part) * Fraction(10) ** power)
+
+
+def stated(reading, head):
+    """The kind of colour and the exposure, each none where it is not stated. A line at fault is a Fault with its number, its place and the line."""
+    colour, exposure = None, None
+    for place, line in enumerate(head.split(b"\n")[1:], 2) if reading == DOCUMENT else ():
+        if line == b"":
+            break
+        rest = line.partition(b"=")[2].strip(b"\t\n\v\f\r ")
+        if line.startswith(b"FORMAT="):
+            colour = {b"32-bit_rle_rgbe": "rgbe", b"32-bit_rle_xyze": "xyze"}.get(rest)
+            if colour is None:
+                raise Fault(15, place, line)
+        if line.startswith(b"EXPOSURE="):
+            x = factor(rest)
+            exposure = x if exposure is None or x == 0 else nearest(exposure * x)
+            if exposure == 0:
+                raise Fault(16, place, line)
+    return colour, exposure
+
+
+def columns(reading, head, width, height):
+    """Whether the line of sizes names the width first, so that the document has columns of another length where rows are written."""
+    return reading == DOCUMENT and width != height and head.split(b"\n\n", 1)[1].startswith(b"+X")
 
 
 # ---- Light, as a reading shows it
@@ -164,15 +215,25 @@ def value(lit):
 
 def decimal(lit):
     """Exactly where the power of two is from -40 to 55, else the first nine digits, the rest cut off, and a power of ten."""
-    x = value(lit)
-    if not -40 <= lit[1] <= 55:
-        power = 0
-        while x >= 10:
-            x, power = x / 10, power + 1
-        while x < 1:
-            x, power = x * 10, power - 1
-        text = str(int(x * 10**8))
-        return "%s.%se%d" % (text[0], text[1:], power)
+    return exactly(value(lit)) if -40 <= lit[1] <= 55 else nine(value(lit))
+
+
+def number(x):
+    """An exposure: exactly where it has at most 40 decimals and is below 2^64, else as light."""
+    return exactly(x) if x.denominator <= 2**40 and x < 2**64 else nine(x)
+
+
+def nine(x):
+    power = 0
+    while x >= 10:
+        x, power = x / 10, power + 1
+    while x < 1:
+        x, power = x * 10, power - 1
+    text = str(int(x * 10**8))
+    return "%s.%se%d" % (text[0], text[1:], power)
+
+
+def exactly(x):
     digits = x.denominator.bit_length() - 1
     text = str(x.numerator * 10**digits // x.denominator).rjust(digits + 1, "0")
     return text if digits == 0 else text[:-digits] + "." + text[-digits:]
@@ -207,35 +268,47 @@ def say_light(label, lit, height):
     return "  %-17s%s" % (label, text)
 
 
-def told(name, width, height, taken, after, survey):
+def say_stated(reading, head):
+    """The lines of what a header states."""
+    colour, exposure = stated(reading, head)
+    unstated = "not stated" + (": %s lines are passed over with --crate" if reading == CRATE else "%.0s")
+    return [
+        "  colour           " + (colour or unstated % "FORMAT"),
+        "  exposure         " + (unstated % "EXPOSURE" if exposure is None else number(exposure)),
+    ]
+
+
+def told(name, head, width, height, taken, after, survey):
     """The lines of `info` for a file that is whole."""
+    length = "it is not: the line of sizes starts with +X" if columns(survey.reading, head, width, height) else len(head) + survey.length
     return [
         name,
         "  width            %d" % width,
         "  height           %d" % height,
+        *say_stated(survey.reading, head),
         "  bytes taken      %d" % taken,
         "  bytes after      %d" % after,
         say_light("darkest pixel", survey.darkest, height),
         say_light("brightest pixel", survey.brightest, height),
         "  black pixels     %d" % survey.black,
         "  outside 97-159   %d" % survey.outside,
-        "  if written anew  %d" % (len(header(width, height)) + survey.length),
-        "  at worst         %d" % worst(width, height),
+        "  if written anew  %s" % length,
+        "  at worst         %d" % (len(head) + worst(width, height)),
     ]
 
 
-NAMES = ["status", "number", "row", "width", "height", "darkest pixel", "brightest pixel", "black pixels", "outside 97-159", "bytes after", "file"]
+NAMES = ["status", "number", "row", "width", "height", "darkest pixel", "brightest pixel", "black pixels", "outside 97-159", "bytes after", "colour", "exposure", "file"]
 
 
 def whole(lines):
     """The line of `info --brief`, from the lines of `info`."""
-    found = {line[2:19].strip(): line[19:].split(" ")[0].replace("none,", "-") for line in lines[1:]}
+    found = {line[2:19].strip(): line[19:].split(" ")[0].replace("none,", "-").replace("not", "-") for line in lines[1:]}
     return "\t".join(["whole", "-", "-"] + [found[name] for name in NAMES[3:-1]] + [lines[0]])
 
 
-def refused(name, number="-", row="-", width="-", height="-"):
+def refused(name, number="-", row="-", width="-", height="-", colour="-", exposure="-"):
     """The line of `info --brief` for a file that is refused."""
-    return "\t".join(map(str, ["refused", number, row, width, height] + ["-"] * 5 + [name]))
+    return "\t".join(map(str, ["refused", number, row, width, height] + ["-"] * 5 + [colour, exposure, name]))
 
 
 def stops(reading, name, file, width, height, start):
@@ -268,7 +341,7 @@ def answer(name, file, width, height, start, reading=DOCUMENT):
         except Fault as fault:
             return [name, "  refused          number %d in row %d (the first row is 0): *" % (*fault.args, row)]
         survey.row(store, width)
-    return told(name, width, height, at, len(file) - at, survey)
+    return told(name, file[:start], width, height, at, len(file) - at, survey)
 
 
 # ---- Running sky
@@ -352,10 +425,10 @@ def large(kind):
     for row in rows:
         survey.row(row, width, 64)
     start = time.monotonic()
-    expect(kind + " info", told(kind + ".hdr", width, height, len(data), 0, survey), 0, "info", kind + ".hdr")
+    lines = told(kind + ".hdr", header(width, height), width, height, len(data), 0, survey)
+    expect(kind + " info", lines, 0, "info", kind + ".hdr")
     middle = time.monotonic()
-    lines = told(kind + ".hdr", width, height, len(data), 0, survey)[:5]
-    expect(kind + " copy", lines + ["  written to       copy.hdr", "  bytes written    %d" % len(data)], 0, "copy", kind + ".hdr", "copy.hdr", "--force")
+    expect(kind + " copy", lines[:3] + lines[5:7] + ["  written to       copy.hdr", "  bytes written    %d" % len(data)], 0, "copy", kind + ".hdr", "copy.hdr", "--force")
     check(kind + " copied bytes", load("copy.hdr") == data)
     end = time.monotonic()
     print("  %s, %d bytes: info %.1f s, copy %.1f s" % (kind, len(data), middle - start, end - middle))
@@ -380,7 +453,7 @@ def wide():
     expect("old runs copy --crate", refused, 1, "copy", "old.hdr", "--crate", "old2.hdr")
     check("old runs left nothing", not there("old2.hdr") and not parts())
     run("copy", "old.hdr", "old2.hdr")
-    check("old runs copied", load("old2.hdr") == header(4, 1) + one + two * 3)
+    check("old runs copied", load("old2.hdr") == old[:18] + one + two * 3)
     keep("old.hdr", old[:-1])
     for reading in (DOCUMENT, CRATE):
         expect(" ".join(("old run without its last byte", *reading)), answer("old.hdr", old[:-1], 4, 1, 18, reading), 1, "info", *reading, "old.hdr")
@@ -442,7 +515,7 @@ def long_rows():
     for name, rows, lost in (("most", [tail] * 19 + [filled] * 3 + [tail] * 18, None), ("over", [tail] * 19 + [filled, longer] + [tail] * 19, 20)):
         data = keep(name, start + b"".join(rows))
         if lost is None:
-            expect("long rows " + name, told(name, width, 40, len(data), 0, survey), 0, "info", name)
+            expect("long rows " + name, told(name, start, width, 40, len(data), 0, survey), 0, "info", name)
         else:
             expect("long rows " + name, [name, "  refused          row %d (the first row is 0) is longer than *" % lost], 1, "info", name)
 
@@ -602,7 +675,7 @@ def misled():
     returns = "its lines end with CR LF, and have to end with LF alone"
     for name, data, number, words in (
         ("returns", b"#?RADIANCE\r\n\r\n-Y 1 +X 1\r\n\1\2\3\4", 1, returns),
-        ("returns-later", b"#?RADIANCE\nFORMAT=x\r\n\r\n-Y 1 +X 1\r\n\1\2\3\4", 2, returns),
+        ("returns-later", b"#?RADIANCE\nFORMAT=32-bit_rle_rgbe\r\n\r\n-Y 1 +X 1\r\n\1\2\3\4", 2, returns),
         ("digits", b"#?RADIANCE\n\n-Y 1 +X 12345678901234567890123\n", 3, "the height or the width is too large: 65535 is the most"),
         ("digits-high", b"#?RADIANCE\n\n-Y 18446744073709551616 +X 1\n", 3, "the height or the width is too large: 65535 is the most"),
         ("no-digits", b"#?RADIANCE\n\n-Y 1e99999999999999999999 +X 1\n", 3, "the height or the width is no number"),
@@ -610,7 +683,7 @@ def misled():
     ):
         keep(name, data)
         expect("words of " + name, [name, "  refused          number %d: %s" % (number, words)], 1, "info", name)
-    keep("returns-long", b"#?RADIANCE\nFORMAT=x\r\n\r\n-Y 1 +X 1\r\n" + b"\1" * 3000000)
+    keep("returns-long", b"#?RADIANCE\nFORMAT=32-bit_rle_rgbe\r\n\r\n-Y 1 +X 1\r\n" + b"\1" * 3000000)
     expect("words of returns-long", ["returns-long", "  refused          the header has no end that can be found: " + returns], 1, "info", "returns-long")
 
 
@@ -679,7 +752,7 @@ def tables():
     want = ["\t".join(NAMES)]
     want += [whole(answer(name, load(name), w, h, len(header(w, h)))) for name, w, h in (("small.hdr", 9, 2), ("wide.hdr", 40000, 3), ("black.hdr", 8, 1), ("saved-dark.hdr", 3, 2))]
     want += [whole(answer("none.hdr", load("none.hdr"), 3, 0, 22)), refused("gone.hdr"), refused("axes", 2), refused("digits", 3), refused("returns", 1)]
-    want += [refused("returns-long"), refused("over", "-", 20, 8, 40), refused("torn.hdr", 9, 0, 9, 2)]
+    want += [refused("returns-long"), refused("over", "-", 20, 8, 40, "rgbe"), refused("torn.hdr", 9, 0, 9, 2, "rgbe")]
     got, status, said = run("info", "--brief", *(line.split("\t")[-1] for line in want[1:]))
     check("a table", got == want + [""] and status == 1)
     check("how many", said == "sky: 5 whole, 7 refused\n")
@@ -772,7 +845,7 @@ def lights():
         ("light-255-255", "1.69808876e38 = 511 x 2^118", "2139095040 = 255 x 2^23"),
     ):
         for reading, lit in ((DOCUMENT, by_document), (CRATE, by_crate)):
-            check(" ".join(("by hand", *reading, name)), run("info", *reading, name)[0][5:7] == ["  darkest pixel    " + lit, "  brightest pixel  " + lit])
+            check(" ".join(("by hand", *reading, name)), run("info", *reading, name)[0][7:9] == ["  darkest pixel    " + lit, "  brightest pixel  " + lit])
     for order in (("--brief", "--crate"), ("--crate", "--brief")):
         got, status, _ = run("info", *order, names[-1], "small.hdr")
         want = [whole(answer(name, load(name), w, h, len(header(w, h)), CRATE)) for name, w, h in ((names[-1], 1, 1), ("small.hdr", 9, 2))]
@@ -801,8 +874,10 @@ def dim():
     """Mantissas of 0, as zune-hdr saved dark skies: half a step of light by the document, black by the crate. A chart is by the document always."""
     for name, exponents, *answers in DIM:
         keep(name, header(3, 2) + b"".join(bytes([0, 0, 0, e]) for e in exponents))
-        sizes = [name, "  width            3", "  height           2", "  bytes taken      87", "  bytes after      0"]
         for reading, values in ((DOCUMENT, answers), (CRATE, (NONE, NONE, 6, 0))):
+            says = ["rgbe", "not stated"] if reading == DOCUMENT else ["not stated: %s lines are passed over with --crate" % word for word in ("FORMAT", "EXPOSURE")]
+            sizes = [name, "  width            3", "  height           2", "  colour           " + says[0], "  exposure         " + says[1]]
+            sizes += ["  bytes taken      87", "  bytes after      0"]
             lines = ["  %-17s%s" % pair for pair in zip(NAMES[5:9], values)]
             expect(" ".join(("info", *reading, name)), sizes + lines + ["  if written anew  87", "  at worst         87"], 0, "info", *reading, name)
     for name, chart, black in DIM_STOPS:
@@ -810,9 +885,110 @@ def dim():
             expect(" ".join(("stops", *reading, name)), [name, *chart, "  black pixels     %d" % black], 0, "stops", *reading, name)
 
 
+SAID = (  # lines of a header, and by hand the kind of colour and the exposure
+    (b"", "not stated", "not stated"),
+    (b"FORMAT=32-bit_rle_rgbe\n", "rgbe", "not stated"),
+    (b"FORMAT= 32-bit_rle_xyze \r\nEXPOSURE=1.5\n", "xyze", "1.5"),
+    (b"FORMAT=32-bit_rle_xyze\nFORMAT=32-bit_rle_rgbe\n", "rgbe", "not stated"),
+    (b"# EXPOSURE=7\n EXPOSURE=7\nexposure=7\nEXPOSURE =7\nFORMAT \n", "not stated", "not stated"),
+    (b"EXPOSURE=2\nEXPOSURE=.25\n", "not stated", "0.5"),
+    (b"EXPOSURE=\t1.e2\n", "not stated", "100"),
+    (b"EXPOSURE=0.1\n", "not stated", "0.100000001490116119384765625"),
+    (b"EXPOSURE=1E-10\n", "not stated", "1.00000001e-10"),
+    (b"EXPOSURE=16777217e+00\n", None, 16),
+    (b"EXPOSURE=1e+10\nEXPOSURE=1e9\n", "not stated", "9999999980506447872"),
+    (b"EXPOSURE=1e10\nEXPOSURE=1e10\n", "not stated", "1.00000002e20"),
+)
+FAULTS = (  # lines of a header, and by hand the number, the line's place and the line as it is shown
+    (b"FORMAT=32-bit_rle_cmyk\n", 15, 2, "FORMAT=32-bit_rle_cmyk"),
+    (b"FORMAT=\r\n", 15, 2, "FORMAT="),
+    (b"FORMAT=32-bit_rle_rgbe\nFORMAT=other\nEXPOSURE=0\n", 15, 3, "FORMAT=other"),
+    (b"EXPOSURE=0\nFORMAT=other\n", 16, 2, "EXPOSURE=0"),
+    (b"EXPOSURE=\n", 16, 2, "EXPOSURE="),
+    (b"EXPOSURE=12345678\n", 16, 2, "EXPOSURE=12345678"),
+    (b"EXPOSURE=-1\n", 16, 2, "EXPOSURE=-1"),
+    (b"EXPOSURE=1e11\n", 16, 2, "EXPOSURE=1e11"),
+    (b"EXPOSURE=1.1e-10\n", 16, 2, "EXPOSURE=1.1e-10"),
+    (b"EXPOSURE=1e10\n" * 4, 16, 5, "EXPOSURE=1e10"),
+    (b"EXPOSURE=1e-10\n" * 6, 16, 6, "EXPOSURE=1e-10"),
+    (b"#\n" * 1000 + b"EXPOSURE=1\n" * 40000 + b"EXPOSURE=x\n" * 9, 16, 41002, "EXPOSURE=x"),
+    (b"FORMAT=\x1b[2J\t\x00\xff\xc2\x85\n", 15, 2, "FORMAT=?[2J?????"),
+    (b"FORMAT=" + b"y" * 53 + b"\n", 15, 2, "FORMAT=" + "y" * 53),
+    (b"FORMAT=" + b"y" * 54 + b"\n", 15, 2, "FORMAT=" + "y" * 53 + ".."),
+)
+
+
+def says():
+    """What a header states, and the line at fault; with --crate neither is read."""
+    sizes = b"\n-Y 1 +X 1\n\x80\x40\x20\x81"
+    for k, (lines, colour, exposure) in enumerate(SAID):
+        name, data = "said%d" % k, b"#?RADIANCE\n" + lines + sizes
+        keep(name, data)
+        if colour is None:
+            expect("by hand " + name, [name, "  refused          number %d in line *" % exposure], 1, "info", name)
+            continue
+        got, status, _ = run("info", name)
+        check("by hand " + name, status == 0 and got[3:5] == ["  colour           " + colour, "  exposure         " + exposure])
+        for reading in (DOCUMENT, CRATE):
+            expect(" ".join(("info", *reading, name)), answer(name, data, 1, 1, len(data) - 4, reading), 0, "info", *reading, name)
+        got, status, _ = run("info", "--brief", name)
+        check("table of " + name, got[1:] == [whole(answer(name, data, 1, 1, len(data) - 4)), ""])
+    for k, (lines, number, place, line) in enumerate(FAULTS):
+        name, data = "fault%d" % k, b"#?RADIANCE\n" + lines + sizes
+        keep(name, data)
+        keep("out.hdr", b"mine")
+        want = [name, "  refused          number %d in line %d (%s): *" % (number, place, line)]
+        for asked in (("info", name), ("stops", name), ("copy", name, "out.hdr", "--force")):
+            expect(" ".join((asked[0], name)), want, 1, *asked)
+        check(name + " left OUT", load("out.hdr") == b"mine" and not parts())
+        check("table of " + name, run("info", "--brief", name)[0][1:] == [refused(name, number), ""])
+        try:
+            stated(DOCUMENT, data)
+            check("RULES of " + name, False)
+        except Fault as fault:
+            check("RULES of " + name, fault.args[:2] == (number, place))
+        expect("info --crate " + name, answer(name, data, 1, 1, len(data) - 4, CRATE), 0, "info", "--crate", name)
+    keep("both", b"#?RADIANCE\nFORMAT=x\n\n+Y 1 +X 1\n")
+    expect("a FORMAT before axes", ["both", "  refused          number 15 in line 2 (FORMAT=x): *"], 1, "info", "both")
+    expect("axes with --crate", ["both", "  refused          number 2: *"], 1, "info", "--crate", "both")
+    keep("both", b"#?RADIANT\nFORMAT=x\n\n+Y 1 +X 1\n")
+    expect("the first line before all", ["both", "  refused          number 1: *"], 1, "info", "both")
+
+
+def keeps():
+    """A copy has the header of its file, byte for byte."""
+    row = b"\2\2\0\10" + b"\210\1" * 4
+    lines = b"#?RGBE\n# by hand\nFORMAT=32-bit_rle_xyze\r\nEXPOSURE=1.5\nVIEW= -vh 90\n\xff\0\n\n-Y 1 +X 8 \t\n"
+    for name, data, want in (
+        ("lines", lines + row + b"after", lines + row),
+        ("long", b"#?RGBE\n" + (b"x" * 1022 + b"\n") * 1000 + b"\n-Y 1 +X 8\n" + row, None),
+        ("square", b"#?RGBE\n\n+X 8 -Y 8\n" + row * 8, None),
+        ("no-rows", b"#?RGBE\nEXPOSURE=2\n\n-Y 0 +X 8", None),
+        ("no-rows-after", b"#?RGBE\n\n-Y 0 +X 8\nafter", b"#?RGBE\n\n-Y 0 +X 8\n"),
+    ):
+        keep(name + ".hdr", data)
+        want = data if want is None else want
+        for reading in (DOCUMENT, CRATE):
+            got, status, _ = run("copy", *reading, name + ".hdr", "keeps.hdr", "--force")
+            check(" ".join(("kept", *reading, name)), status == 0 and load("keeps.hdr") == want and got[-3] == "  bytes written    %d" % len(want))
+            check(" ".join(("its length", *reading, name)), "  if written anew  %d" % len(want) in run("info", *reading, name + ".hdr")[0])
+    data = keep("unknown.hdr", b"#?RGBE\nFORMAT=other\nEXPOSURE=none\n\n-Y 1 +X 8\n" + row)
+    run("copy", "--crate", "unknown.hdr", "keeps.hdr", "--force")
+    check("lines that are not read are kept with --crate", load("keeps.hdr") == data)
+    data = keep("columns.hdr", b"#?RGBE\n\n+X 8 -Y 2\n" + row * 2)
+    keep("keeps.hdr", b"mine")
+    want = ["columns.hdr", "  refused          the line of sizes starts with +X: by the Radiance document its pixels lie column by column, *"]
+    expect("columns are not copied as rows", want, 1, "copy", "columns.hdr", "keeps.hdr", "--force")
+    check("OUT is as it was", load("keeps.hdr") == b"mine" and not parts())
+    run("copy", "--crate", "columns.hdr", "keeps.hdr", "--force")
+    check("with --crate they are rows", load("keeps.hdr") == data)
+
+
 def anew(reading, file, width, height, start):
-    """The copy of a file: its pixels by RULES 4, written by RULES 5; none where a row is at fault."""
-    store, at, copy = bytearray(4 * width), start, header(width, height)
+    """The copy of a file: its header, and its pixels by RULES 4, written by RULES 5; none where a row is at fault or the header cannot be kept."""
+    if columns(reading, file[:start], width, height):
+        return None
+    store, at, copy = bytearray(4 * width), start, file[:start]
     try:
         for _ in range(height):
             at = read_row(reading, file, at, store, width)
@@ -844,6 +1020,8 @@ def twice():
             run("copy", *reading, name, "first.hdr", "--force")
             check(" ".join(("the copy of", name, *reading)), load("first.hdr") == want)
             for again in (DOCUMENT, CRATE):
+                if anew(again, want, width, height, start) is None:
+                    continue
                 run("copy", *again, "first.hdr", "second.hdr", "--force")
                 check(" ".join(("the copy of the copy of", name, *reading, "then", *again)), load("second.hdr") == want)
     print("  %d copies, each copied by both readings" % copied)
@@ -858,6 +1036,8 @@ def main():
     scattered()
     lights()
     dim()
+    says()
+    keeps()
     headers()
     wide()
     long_rows()

@@ -13,15 +13,16 @@ use Rattle.sky.specs.declared.outcome.Outcome.the-variants as outcome
 abbrev pub Held : View → Type 0
 Held v = (v .at ≤ v .end) × (v .end ≤ 2097152)
 
--- sizes within the limits, and a window
+-- sizes within the limits, a window, and a header that lies in it
 abbrev pub Started : Start → Type 0
-Started (start.Sizes head v) = (head .width ≤ 65535) × (head .height ≤ 65535) × (v .at ≤ v .end) × (v .end ≤ 2097152)
+Started (start.Sizes head v) = (head .width ≤ 65535) × (head .height ≤ 65535) × (v .at ≤ v .end) × (v .end ≤ 2097152) × (head .taken ≤ 2097152)
 Started (start.Ended o) = Unit {0}
 
 -- a file that is whole leaves the window at its end
 abbrev pub Ended : Outcome → Type 0
 Ended (outcome.Whole v) = Held v
 Ended (outcome.Refused r) = Unit {0}
+Ended (outcome.Line number at end) = Unit {0}
 Ended (outcome.Returns number) = Unit {0}
 Ended outcome.TooLarge = Unit {0}
 Ended outcome.LongHeader = Unit {0}

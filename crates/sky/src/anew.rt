@@ -121,7 +121,7 @@ fn finish(to: i32, room: &[u8; 524288], copied: Copied) -> Copied
     copied
 }
 
-// Writes the header and the rows.
+// Writes the header as it is, which the window starts with, and the rows.
 pub(crate) fn copy_all(
     reading: Reading,
     fd: i32,
@@ -134,15 +134,11 @@ pub(crate) fn copy_all(
     shown: bool,
 ) -> Copied
     requires { ⌜ Held view ⌝ }
-    requires { ⌜ (head .width ≤ 65535) × (head .height ≤ 65535) ⌝ }
+    requires { ⌜ (head .width ≤ 65535) × (head .height ≤ 65535) × (head .taken ≤ 2097152) ⌝ }
     ensures { λ r. ⌜ Ended (r .outcome) ⌝ }
 {
     steps::clear(store, 4 * head.width);
-    let start = Pen {
-        put: pen::write_header(head.width, head.height, room),
-        written: 0,
-        failed: false,
-    };
+    let start = pen::keep_header(to, bytes, head.taken);
     let copied = copy_rows(
         reading,
         fd,

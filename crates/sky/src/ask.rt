@@ -50,7 +50,7 @@ fn wrong(what: &[u8], word: &[u8]) -> bool {
 fn help() -> bool {
     say::text(b"sky says what a Radiance HDR file holds, and writes it anew.\n\n");
     say::text(
-        b"  ./sky info FILE..            sizes, light and lengths of each file, or why it is refused\n",
+        b"  ./sky info FILE..            sizes, colour, light and lengths of each file, or why it is refused\n",
     );
     say::text(
         b"  ./sky info --brief FILE..    the same in a table: one line to a file, with tabs\n",
@@ -58,13 +58,16 @@ fn help() -> bool {
     say::text(
         b"  ./sky stops FILE..           how many pixels have their light in each power of two, as a chart\n",
     );
-    say::text(b"  ./sky copy IN OUT [--force]  the picture of IN, written anew to OUT\n");
+    say::text(
+        b"  ./sky copy IN OUT [--force]  the picture of IN, written anew to OUT under the same header\n",
+    );
     say::text(
         b"  ./sky info --crate FILE..    as zune-hdr reads; stops and copy take --crate too\n",
     );
     say::text(b"  ./sky help                   this text, as --help and -h\n");
     say::text(b"  ./sky --version              the version, and the kit that proved it\n\n");
     help_reading();
+    help_stated();
     help_more();
     true
 }
@@ -92,16 +95,30 @@ fn help_reading() {
     say::text(b"written to within a step.\n");
 }
 
+// What a header states.
+fn help_stated() {
+    say::text(
+        b"'colour' and 'exposure' are what the header's lines FORMAT and EXPOSURE state; light is not divided by\n",
+    );
+    say::text(
+        b"the exposure. One of these lines that cannot be read is refused by the number 15 or 16 and shown; with\n",
+    );
+    say::text(b"--crate both are passed over, and nothing is stated.\n");
+}
+
 // What a copy is, and how an answer ends.
 fn help_more() {
     say::text(
-        b"A copy has the same pixels, bit for bit, under a header of its own: comments and the lines\n",
+        b"A copy has the header of IN, byte for byte, and the same pixels, bit for bit; only their coding is new.\n",
     );
     say::text(
-        b"EXPOSURE and FORMAT are not kept. An OUT that is there is kept, unless --force is given; it keeps\n",
+        b"Sizes +X width -Y height are columns by the document: only where width and height are the same, or with\n",
     );
     say::text(
-        b"its mode then. A folder, a link or anything that is no plain file is never replaced.\n",
+        b"--crate, is such a file copied. An OUT that is there is kept, unless --force is given; it keeps its\n",
+    );
+    say::text(
+        b"mode then. A folder, a link or anything that is no plain file is never replaced.\n",
     );
     say::text(
         b"The last line is 'ok' or 'refused', and the exit status 0 or 1; the table says how many are\n",

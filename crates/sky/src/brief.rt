@@ -6,6 +6,7 @@ use crate::lit;
 use crate::outcome;
 use crate::outcome::Outcome;
 use crate::rows;
+use crate::said;
 use crate::say;
 use header::Head;
 use steps::Reading;
@@ -16,7 +17,7 @@ ghost use Rattle.sky.specs.Inner.{Held};
 // The names of the fields.
 pub(crate) fn names() {
     say::text(b"status\tnumber\trow\twidth\theight\tdarkest pixel\tbrightest pixel\t");
-    say::text(b"black pixels\toutside 97-159\tbytes after\tfile\n");
+    say::text(b"black pixels\toutside 97-159\tbytes after\tcolour\texposure\tfile\n");
 }
 
 // How many files are whole and how many are not, on standard error.
@@ -26,11 +27,19 @@ pub(crate) fn end(whole: usize, refused: usize) {
     say::aside_text(b" refused\n");
 }
 
+// The fields of what the header states, and the tab before the name.
+fn say_stated(head: Head) {
+    let colour = head.colour;
+    let exposure = head.exposure;
+    said::say_fields(colour, exposure);
+    say::text(b"\t");
+}
+
 // The fields of a file that is refused; its sizes are not known.
 fn say_refused(outcome: Outcome) {
     say::text(b"refused\t");
     outcome::say_brief(outcome);
-    say::text(b"\t-\t-\t-\t-\t-\t-\t-\t");
+    say::text(b"\t-\t-\t-\t-\t-\t-\t-\t-\t-\t");
 }
 
 // The fields of a file whose rows end too early.
@@ -39,7 +48,8 @@ fn say_cut(head: Head, outcome: Outcome) {
     outcome::say_brief(outcome);
     say::tab(head.width);
     say::tab(head.height);
-    say::text(b"\t-\t-\t-\t-\t-\t");
+    say::text(b"\t-\t-\t-\t-\t-");
+    say_stated(head);
 }
 
 // The fields of a file that is whole.
@@ -56,7 +66,7 @@ fn say_found(reading: Reading, head: Head, totals: Totals, after: usize) {
     say::tab(totals.black);
     say::tab(totals.masked);
     say::tab(after);
-    say::text(b"\t");
+    say_stated(head);
 }
 
 // Reads the rows of a picture, says its fields, and answers whether it is whole.
@@ -94,7 +104,7 @@ fn tell_open(
     bytes: &mut [u8; 2097152],
     store: &mut [u8; 262140],
 ) -> bool {
-    let start = file::open(fd, bytes);
+    let start = file::open(reading, fd, bytes);
     match start {
         Start::Sizes(head, view) => tell_rows(reading, fd, bytes, store, head, view),
         Start::Ended(outcome) => {

@@ -104,15 +104,15 @@ fn start_at(head: Head, view: View) -> Start
 }
 
 // What the part that ends there says of the header.
-fn head_in(bytes: &[u8], end: usize, more: bool) -> HeadPart
+fn head_in(reading: Reading, bytes: &[u8], end: usize, more: bool) -> HeadPart
     requires { ⌜ end ≤ length (now bytes) ⌝ }
     ensures { λ r. ⌜ HeadWithin end r ⌝ }
 {
-    window::read_header(&bytes[..end], more)
+    window::read_header(reading, &bytes[..end], more)
 }
 
-// Reads the header of a file.
-pub(crate) fn open(fd: i32, bytes: &mut [u8; 2097152]) -> Start
+// Reads the header of a file, by a reading.
+pub(crate) fn open(reading: Reading, fd: i32, bytes: &mut [u8; 2097152]) -> Start
     ensures { λ r. ⌜ Started r ⌝ }
 {
     let nothing = View {
@@ -127,7 +127,7 @@ pub(crate) fn open(fd: i32, bytes: &mut [u8; 2097152]) -> Start
         return Start::Ended(Outcome::Unreadable { error: view.error });
     }
     let end = part_end(view);
-    let answer = head_in(bytes, end, goes_on(view, end));
+    let answer = head_in(reading, bytes, end, goes_on(view, end));
     match answer {
         HeadPart::Read(head) => start_at(head, view),
         HeadPart::Refused(r) => Start::Ended(flaw::refused(bytes, end, r)),

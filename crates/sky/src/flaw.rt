@@ -1,4 +1,5 @@
 // What a person should know of a header that is refused, beside its number.
+use crate::fault;
 use crate::outcome::Outcome;
 use steps::refusal;
 use steps::refusal::Refusal;
@@ -77,6 +78,9 @@ fn refused_by(bytes: &[u8], r: Refusal) -> Outcome {
     }
     if r.number == refusal::SIZE && has_large_size(bytes) {
         return Outcome::TooLarge;
+    }
+    if r.number == refusal::UNKNOWN_FORMAT || r.number == refusal::EXPOSURE {
+        return fault::refused(bytes, r.number);
     }
     Outcome::Refused(r)
 }

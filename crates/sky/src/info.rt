@@ -1,4 +1,6 @@
 // What a file holds.
+use crate::axes;
+use crate::fault;
 use crate::file;
 use crate::file::Start;
 use crate::file::View;
@@ -7,6 +9,7 @@ use crate::name;
 use crate::outcome;
 use crate::outcome::Outcome;
 use crate::rows;
+use crate::said;
 use crate::say;
 use header::Head;
 use steps::Reading;
@@ -15,20 +18,31 @@ use writer::WriteAnswer;
 ghost use Prim.Native.Nat.{_≤_};
 ghost use Rattle.sky.specs.Inner.{Held};
 
-// The longest that a file of these sizes can be.
-fn say_worst(width: usize, height: usize) {
-    let worst = writer::worst(width, height);
+// The longest that a file of this header can be: the rows are those of a file that is written with a header of its own.
+fn say_worst(head: Head) {
+    let worst = writer::worst(head.width, head.height);
     match worst {
-        WriteAnswer::Done(n) => say::field(b"  at worst         ", n),
+        WriteAnswer::Done(n) => {
+            let rows = steps::less(n, header::length(head.width, head.height));
+            say::field(
+                b"  at worst         ",
+                std::num::wrapping_add_usize(head.taken, rows),
+            )
+        }
         WriteAnswer::Refused(r) => {}
     }
 }
 
-// How long the file would be if it were written anew, whose rows take so many bytes.
-fn whole_length(head: Head, rows: usize) -> usize
-    requires { ⌜ rows ≤ 17179869184 ⌝ }
-{
-    header::length(head.width, head.height) + rows
+// How long the file would be if it were written anew under its own header, with rows that take so many bytes.
+fn say_anew(head: Head, rows: usize, columns: bool) {
+    if columns {
+        say::text(b"  if written anew  it is not: the line of sizes starts with +X\n");
+        return;
+    }
+    say::field(
+        b"  if written anew  ",
+        std::num::wrapping_add_usize(head.taken, rows),
+    );
 }
 
 // The darkest and the brightest pixel.
@@ -52,18 +66,20 @@ fn say_found(
     length: usize,
     taken: usize,
     after: usize,
-)
-    requires { ⌜ length ≤ 17179869184 ⌝ }
-{
+    columns: bool,
+) {
     say::field(b"  width            ", head.width);
     say::field(b"  height           ", head.height);
+    let colour = head.colour;
+    let exposure = head.exposure;
+    said::say_lines(reading, colour, exposure);
     say::field(b"  bytes taken      ", taken);
     say::field(b"  bytes after      ", after);
     say_lights(reading, head.height, totals);
     say::field(b"  black pixels     ", totals.black);
     say::field(b"  outside 97-159   ", totals.masked);
-    say::field(b"  if written anew  ", whole_length(head, length));
-    say_worst(head.width, head.height);
+    say_anew(head, length, columns);
+    say_worst(head);
 }
 
 // Reads the rows of a picture, says what was found, and answers whether it is whole.
@@ -78,8 +94,9 @@ fn tell_rows(
     shown: bool,
 ) -> bool
     requires { ⌜ Held view ⌝ }
-    requires { ⌜ (head .width ≤ 65535) × (head .height ≤ 65535) ⌝ }
+    requires { ⌜ (head .width ≤ 65535) × (head .height ≤ 65535) × (head .taken ≤ 2097152) ⌝ }
 {
+    let columns = axes::are_columns(reading, bytes, head);
     steps::clear(store, 4 * head.width);
     say::begin(shown, name);
     let found = rows::read_rows(reading, fd, bytes, store, head, view, shown);
@@ -89,7 +106,15 @@ fn tell_rows(
         Outcome::Whole(v) => {
             let totals = found.totals;
             let after = file::after(fd, bytes, v);
-            say_found(reading, head, totals, found.length, file::taken(v), after);
+            say_found(
+                reading,
+                head,
+                totals,
+                found.length,
+                file::taken(v),
+                after,
+                columns,
+            );
             true
         }
         _ => {
@@ -108,11 +133,11 @@ fn tell_open(
     store: &mut [u8; 262140],
 ) -> bool {
     let shown = file::is_large(fd);
-    let start = file::open(fd, bytes);
+    let start = file::open(reading, fd, bytes);
     match start {
         Start::Sizes(head, view) => tell_rows(reading, fd, name, bytes, store, head, view, shown),
         Start::Ended(outcome) => {
-            outcome::say_outcome(outcome);
+            fault::say_outcome(bytes, outcome);
             false
         }
     }

@@ -24,7 +24,7 @@ fn say_digits(digits: &[u8], n: usize)
 }
 
 // The number n / 2^j, which has j decimals.
-fn say_ratio(n: usize, j: usize)
+pub(crate) fn say_ratio(n: usize, j: usize)
     requires { ⌜ j ≤ 40 ⌝ }
 {
     let unit = power(j);
@@ -64,8 +64,8 @@ fn say_power(more: usize, less: usize)
 }
 
 // The nine digits, of which the first stands before the point, and a power of ten: digits times 10^more over 10^j.
-fn say_lead(digits: usize, more: usize, j: usize)
-    requires { ⌜ (more ≤ 100) × (j ≤ 137) ⌝ }
+pub(crate) fn say_lead(digits: usize, more: usize, j: usize)
+    requires { ⌜ (more ≤ 112) × (j ≤ 149) ⌝ }
 {
     let mut decimals = [0u8; 8];
     decimal::put_decimals(digits % 100000000, 100000000, 8, &mut decimals);

@@ -1,8 +1,10 @@
 // What a person asks of a sky file: its sizes, its light, a chart of it, or a copy that is written anew.
 mod anew;
 mod ask;
+mod axes;
 mod brief;
 mod copy;
+mod fault;
 mod file;
 mod fill;
 mod flaw;
@@ -13,6 +15,7 @@ mod name;
 mod outcome;
 mod pen;
 mod rows;
+mod said;
 mod say;
 mod stops;
 

@@ -5,10 +5,11 @@ use crate::say;
 use steps::refusal;
 use steps::refusal::Refusal;
 
-// How the rows of a file end.
+// How the rows of a file end; a line of the header at fault is named by its place in the window.
 pub(crate) enum Outcome {
     Whole(View),
     Refused(Refusal),
+    Line { number: u8, at: usize, end: usize },
     Returns { number: u8 },
     TooLarge,
     LongHeader,
@@ -18,7 +19,7 @@ pub(crate) enum Outcome {
 }
 
 // A sentence for each number that reading a file can come to.
-fn sentence(number: u8) {
+pub(crate) fn sentence(number: u8) {
     match number {
         refusal::FIRST_LINE => say::text(
             b"this is no Radiance picture: its first line is neither #?RADIANCE nor #?RGBE",
@@ -36,6 +37,12 @@ fn sentence(number: u8) {
         refusal::BROKEN_ROW => say::text(
             b"the row is broken: its mark names another width, a run or a repeat passes its end, or a repeat has no pixel before it",
         ),
+        refusal::UNKNOWN_FORMAT => say::text(
+            b"the FORMAT is not known: 32-bit_rle_rgbe and 32-bit_rle_xyze are",
+        ),
+        refusal::EXPOSURE => say::text(
+            b"the EXPOSURE cannot be read as 1 to 7 digits with at most a point and a power of ten, is too small or too large, or comes to zero or infinity with those before it",
+        ),
         refusal::OLD_RUN => say::text(
             b"an old run, a pixel 1, 1, 1, n that asks for copies of the one before it, is not read with --crate",
         ),
@@ -44,7 +51,7 @@ fn sentence(number: u8) {
 }
 
 // The number of a refusal.
-fn say_number(number: u8) {
+pub(crate) fn say_number(number: u8) {
     say::text(b"  refused          number ");
     say::number(steps::wide(number));
 }
@@ -92,6 +99,7 @@ pub(crate) fn say_outcome(outcome: Outcome) {
     match outcome {
         Outcome::Whole(view) => {}
         Outcome::Refused(r) => say_refusal(r),
+        Outcome::Line { number, at, end } => say_refusal(Refusal { number, place: 0 }),
         Outcome::Returns { number } => say_returns(number),
         Outcome::TooLarge => {
             say_number(refusal::SIZE);
@@ -138,6 +146,7 @@ fn say_brief_refusal(r: Refusal) {
 pub(crate) fn say_brief(outcome: Outcome) {
     match outcome {
         Outcome::Refused(r) => say_brief_refusal(r),
+        Outcome::Line { number, at, end } => say_brief_refusal(Refusal { number, place: 0 }),
         Outcome::Returns { number } => {
             if number == 0 {
                 say::text(b"-\t-");

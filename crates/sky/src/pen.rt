@@ -53,10 +53,15 @@ pub(crate) fn put_row(
     flush(to, room, full)
 }
 
-// Puts the header into the room, and answers its length.
-pub(crate) fn write_header(width: usize, height: usize, room: &mut [u8; 524288]) -> usize
-    requires { ⌜ (width ≤ 65535) × (height ≤ 65535) ⌝ }
-    ensures { λ r. ⌜ r ≤ 262144 ⌝ }
+// Writes the header as it stands at the start of the bytes.
+pub(crate) fn keep_header(to: i32, bytes: &[u8], taken: usize) -> Pen
+    requires { ⌜ taken ≤ length (now bytes) ⌝ }
+    ensures { λ r. ⌜ r .put ≤ 262144 ⌝ }
 {
-    header::write(width, height, room)
+    let ok = io::write_all(to, &bytes[..taken]);
+    Pen {
+        put: 0,
+        written: taken,
+        failed: !ok,
+    }
 }

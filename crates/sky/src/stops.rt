@@ -1,4 +1,5 @@
 // How many pixels of a picture have their light in each power of two, as a chart of bars.
+use crate::fault;
 use crate::file;
 use crate::file::Start;
 use crate::file::Step;
@@ -206,11 +207,11 @@ fn tell_open(
     store: &mut [u8; 262140],
 ) -> bool {
     let shown = file::is_large(fd);
-    let start = file::open(fd, bytes);
+    let start = file::open(reading, fd, bytes);
     match start {
         Start::Sizes(head, view) => tell_rows(reading, fd, name, bytes, store, head, view, shown),
         Start::Ended(outcome) => {
-            outcome::say_outcome(outcome);
+            fault::say_outcome(bytes, outcome);
             false
         }
     }

@@ -1,4 +1,4 @@
--- How much a row, a header and a power of two can be.
+-- How much a row, a power of two and a float can be.
 use Prim.Native.Nat.{ℕ, _+_, _-_, _*_, _%_, _^_, _<_, _≤_}
 use mathlib.Core.Bool.{_&&_}
 use mathlib.Core.List.{List}
@@ -13,8 +13,6 @@ use lib.Pow.{pow-pos, pow-mono, shl-exact}
 use Rattle.steps.proofs.Laws.Turns.{by-test, and-right}
 use Rattle.decimal.specs.Leading.{Short}
 use Rattle.decimal.proofs.Laws.Leading.{short-fifths, short-doubles}
-use Rattle.header.specs.Written.{written}
-use Rattle.header.proofs.Laws.Written.{written-length, digits-few}
 use Rattle.rows_written.specs.Row.{writtenRow, worstRow}
 use Rattle.steps.specs.Width.{isCoded}
 use Rattle.rows_written.proofs.Laws.Worst.{row-worst}
@@ -39,20 +37,6 @@ module _ (px : List ℕ) (at w : ℕ) (h : w ≤ 65535) where
   pub row-half : length (writtenRow px at w) ≤ 262144
   row-half = row-small (length (writtenRow px at w)) refl
 
--- ---- The header as it is written
-
-pub header-few : (w h n : ℕ) → w < 2 ^ 64 → h < 2 ^ 64 → n ≡ length (written w h) → n ≤ 101
-header-few w h n kw kh e = omega (arith, written-length w h, digits-few w kw, digits-few h kh)
-
-pub header-short : (w h : ℕ) → w ≤ 65535 → h ≤ 65535 → length (written w h) ≤ 101
-header-short w h kw kh =
-    let lw : w < 2 ^ 64 = omega arith in
-    let lh : h < 2 ^ 64 = omega arith in
-    header-few w h (length (written w h)) lw lh refl
-
-pub header-half : (w h n : ℕ) → w ≤ 65535 → h ≤ 65535 → n ≡ length (written w h) → n ≤ 262144
-header-half w h n kw kh e = omega (arith, header-short w h kw kh)
-
 -- ---- A power of two
 
 power-small : (j : ℕ) → j ≤ 40 → 2 ^ j ≤ 2000000000000
@@ -73,12 +57,23 @@ rest-less n unit h = mod-lt n h
 -- ---- Light
 
 pub dim-short : (m s : ℕ) → m < 512 → 12 ≤ s → Short (m * 5 ^ (149 - s))
-dim-short m s h k = short-fifths m (149 - s) h (omega arith)
+dim-short m s h k = short-fifths m (149 - s) (omega arith) (omega arith)
 
 pub bright-short : (m s : ℕ) → m < 512 → s ≤ 267 → Short (m * 2 ^ (s - 149))
-bright-short m s h k = short-doubles m (s - 149) h (omega arith)
+bright-short m s h k = short-doubles m (s - 149) (omega arith) (omega arith)
+
+-- ---- An exposure
+
+pub small-short : (m j : ℕ) → m < 16777216 → j ≤ 149 → Short (m * 5 ^ j)
+small-short m j h k = short-fifths m j h k
+
+pub large-short : (m k : ℕ) → m < 16777216 → k ≤ 105 → Short (m * 2 ^ k)
+large-short m k h l = short-doubles m k h (omega arith)
 
 -- ---- A part of what is held
+
+pub first-part : (bytes : List ℕ) (first end : ℕ) → first ≤ end → end ≤ length bytes → first ≤ length (take end bytes)
+first-part bytes first end h k = rw (length-take-le end bytes k) h
 
 pub head-part : (r : HeadPart) (bytes : List ℕ) (end : ℕ) → HeadWithin (length (take end bytes)) r → end ≤ length bytes → HeadWithin end r
 head-part r bytes end h k = rw (length-take-le end bytes k) at h

@@ -50,6 +50,9 @@ module _ (s : Start) (x : Head) (v : View) (h : Started s) (e : s ≡ start.Size
   pub started-end : v .end ≤ 2097152
   started-end = subst Started e h .3
 
+  pub started-taken : x .taken ≤ 2097152
+  started-taken = subst Started e h .4
+
 module _ (r : HeadPart) (x : Head) (n : ℕ) (h : HeadWithin n r) (e : r ≡ head.Read x) where
   pub head-taken : (m : ℕ) → n ≤ m → x .taken ≤ m
   head-taken m l = let k = subst (HeadWithin n) e h .0 in omega arith

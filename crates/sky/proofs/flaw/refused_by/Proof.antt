@@ -28,8 +28,14 @@ has-large-size-requires c κs = search needs
 returns-3 : tie.Need-returns-3
 returns-3 c = search needs
 
+refused-requires : tie.Need-refused-requires
+refused-requires c κs = search needs
+
 returns-4 : tie.Need-returns-4
 returns-4 c = search needs
+
+returns-5 : tie.Need-returns-5
+returns-5 c = search needs
 
 pub refused-by-spec : {M : Type 1} → statement M
 refused-by-spec =
@@ -43,4 +49,6 @@ refused-by-spec =
     returns-2
     has-large-size-requires
     returns-3
-    returns-4)
+    refused-requires
+    returns-4
+    returns-5)

@@ -1,4 +1,4 @@
--- `sky::lit::say_decimal` is safe: light has at most a hundred digits.
+-- `sky::lit::say_decimal` is safe: light has at most 112 digits.
 use borrow.Author.Needs.{needs}
 use Rattle.sky.proofs.Laws.Room.{dim-short, bright-short}
 use Rattle.sky.proofs.lit.say_decimal.Statement.{statement}
