@@ -1,4 +1,4 @@
-"""The replay program's fixed list: cases with answers by the rules, cases of the document reading, then cases that the unchanged Rust answers.
+"""The replay program's fixed list: cases with answers by the rules, cases of the document reading and of headers by it, then cases that the unchanged Rust answers.
 
 Use: list.py ORACLE      (from the repository's top; compare/list builds the oracle first)
 
@@ -7,9 +7,10 @@ No answer comes from the replay program.
 import subprocess
 import sys
 
+import list_document
+import list_header
 import reading
 from lines import file, hexed, lent, lent_samples, lower_edges, middles
-from list_document import by_hand, by_reading
 
 HEADER = "#?RADIANCE\nSOFTWARE=zune-hdr\nFORMAT=32-bit_rle_rgbe\n\n-Y {h} +X {w}\n"
 
@@ -264,6 +265,8 @@ def no_form():
         "len4 1 1 1", "len4 1 1 80 ", "write 1 1 -", "write 1 1 01 -", "write 1 1 18446744073709551615 -", "write4 1 1 1 0x", "write4 1 1 1",
         "write5 1 1 1 -", "\0", "size 1\0 1", "é", "readd", "readd 1 1 1 1", "readd 1 1 1 01", "readd 1 1 1 1 1 -", "readd 1 1 1 1 0", "readd 01 1 1 1 -",
         "readd 1 1 18446744073709551615 1 -", "readd 1 1 1 18446744073709551615 -", "readD 9 9 0 0 -", "readdd 9 9 0 0 -",
+        "headd", "headd 1 1", "headd 1 1 ", "headd 1 1 0", "headd 1 1 0G", "headd 1 1 01 ", "headd 1 1 1 -", "headd 1 -", "headd 01 1 -", "headd 1 18446744073709551616 -", "headD 1 1 -",
+        "headdd 1 1 -", "head d 1 1 -",
     ):
         yield line, "?"
 
@@ -446,12 +449,16 @@ def main():
     for part in (reader_refusals, old_runs, writer_refusals, pixels, bounds_of_bytes, saved_twice, worst_lengths, no_form):
         pairs += dict.fromkeys(part())
     by_rules = len(pairs)
-    pairs += [pair for pair in dict(by_hand()).items() if pair not in pairs]
+    counts = []
+    for part in (list_document, list_header):
+        before, known = len(pairs), dict(pairs)
+        pairs += [pair for pair in dict(part.by_hand()).items() if pair[0] not in known]
+        known, hand = dict(pairs), len(pairs)
+        pairs += [(line, reading.answer(line)) for line in dict.fromkeys(part.by_reading()) if line not in known]
+        counts.append((hand - before, len(pairs) - hand))
     for line, answer in pairs:
-        if line.startswith("readd ") and answer != "?" and reading.answer(line) != answer:
+        if line.startswith(("readd ", "headd ")) and answer != "?" and reading.answer(line) != answer:
             sys.exit(f"list: compare/reading.py answers otherwise than by hand: {line[:200]}")
-    pairs += [(line, reading.answer(line)) for line in dict.fromkeys(by_reading()) if line not in dict(pairs)]
-    by_document = len(pairs) - by_rules
     lines = list(dict.fromkeys(rust_cases(lambda line: answers([line])[0])))
     for line, answer in zip(lines, answers(lines), strict=True):
         if answer[0] in "~!?" or answer.startswith("25 "):
@@ -463,7 +470,9 @@ def main():
         f.write("\n".join(line for line, _ in pairs).encode())
     with open("crates/replay/stdout", "wb") as f:
         f.write("".join(answer + "\n" for _, answer in pairs).encode())
-    print(f"list: {by_rules + 1} lines by the rules, {by_document} of the document reading, {len(lines)} by the Rust")
+    print(f"list: {by_rules + 1} lines by the rules, {len(lines)} by the Rust")
+    for name, (hand, rest) in zip(("the document reading", "headers by it"), counts):
+        print(f"list: of {name} {hand} lines by hand, {rest} by compare/reading.py")
 
 
 main()

@@ -1,9 +1,13 @@
-"""The document reading, made from docs/RULES.md and the ticket that ordered it, and from nothing of the crates.
+"""The document reading, made from docs/RULES.md and the tickets that ordered it, and from nothing of the crates.
 
-`answer` answers the replay program's lines `readd`. Only Python's own library is used.
+`answer` answers the replay program's lines `readd` and `headd`. Only Python's own library is used, and a number is a fraction until it is
+rounded.
 """
 
+import functools
+import re
 import struct
+from fractions import Fraction
 
 LARGEST = 65535  # the largest limit that counts
 BLANKS = b"\t\n\x0b\x0c\r "
@@ -39,7 +43,81 @@ class Source:
         return self.data[start:self.place]
 
 
+# ---- what the lines of a header say
+
+
+KINDS = {b"32-bit_rle_rgbe": "rgbe", b"32-bit_rle_xyze": "xyze"}
+EXPOSURE = re.compile(rb"([0-9]*)(?:\.([0-9]*))?(?:[eE]([+-]?[0-9]{1,2}))?")
+INFINITE = 0x7F800000  # the bit pattern of infinity
+
+
+@functools.cache
+def two_to(power):
+    return Fraction(2) ** power
+
+
+def nearest(value):
+    """The bit pattern of the f32 nearest to a fraction above 0, of two as near the one whose pattern is even; or that of infinity."""
+    power = value.numerator.bit_length() - value.denominator.bit_length()
+    if two_to(power) > value:
+        power -= 1
+    power = max(power, -126)  # of two: the largest that is not above the value, and none below -126
+    # how many units there are of the last place, by Python's rounding of fractions, which takes the even one of two as near
+    units = round(value / two_to(power - 23))
+    return min(INFINITE, ((power + 126) << 23) + units)
+
+
+def number(pattern):
+    """The fraction of which this is the bit pattern, one that is not negative and not infinite."""
+    power = max(pattern >> 23, 1) - 127
+    return ((pattern & 0x7FFFFF) + (0x800000 if pattern >> 23 else 0)) * two_to(power - 23)
+
+
+def exposure(text):
+    """The bit pattern of an exposure as it is written: 1 to 7 digits with a point anywhere or none, and a power of ten or none."""
+    found = EXPOSURE.fullmatch(text)
+    if not found:
+        raise Refused(16)
+    whole, part, power = found[1], found[2] or b"", int(found[3] or 0)
+    if not 1 <= len(whole + part) <= 7 or not -10 <= power - len(part) <= 10 or int(whole + part) == 0:
+        raise Refused(16)
+    return nearest(int(whole + part) * Fraction(10) ** (power - len(part)))
+
+
+def product(a, b):
+    """The bit pattern of a product of two bit patterns; one that becomes zero or infinite is 16."""
+    pattern = nearest(number(a) * number(b))
+    if pattern in (0, INFINITE):
+        raise Refused(16)
+    return pattern
+
+
+def said(lines):
+    """The kind of colour that the last FORMAT line says, and the bit pattern of the product of all exposures; None where there is none. 15 or 16."""
+    kind = total = None
+    for line in lines:
+        if line.startswith(b"FORMAT="):
+            kind = KINDS.get(line[7:].strip(BLANKS))
+            if kind is None:
+                raise Refused(15)
+        if line.startswith(b"EXPOSURE="):
+            factor = exposure(line[9:].strip(BLANKS))
+            total = factor if total is None else product(total, factor)
+    return kind, total
+
+
 # ---- the header, and the checks 1 to 8
+
+
+def first_line(source):
+    if source.until(b"\n") not in (b"#?RADIANCE\n", b"#?RGBE\n"):
+        raise Refused(1)
+
+
+def further_lines(source):
+    """The lines up to one whose first byte is a line feed, which is taken too, or to the end of the bytes."""
+    while (line := source.until(b"\n"))[:1] not in (b"\n", b""):
+        yield line
 
 
 def size(field):
@@ -49,12 +127,8 @@ def size(field):
     return int(digits)
 
 
-def header(source):
-    """Width and height; 1, 2 or 3."""
-    if source.until(b"\n") not in (b"#?RADIANCE\n", b"#?RGBE\n"):
-        raise Refused(1)
-    while source.until(b"\n")[:1] not in (b"\n", b""):
-        pass
+def sizes(source):
+    """Width and height; 2 or 3."""
     fields = [source.until(end).strip(BLANKS) for end in (b" ", b" ", b" ", b"\n")]
     axes = fields[0], fields[2]
     if axes not in ((b"-Y", b"+X"), (b"+X", b"-Y")):
@@ -63,12 +137,22 @@ def header(source):
     return (second, first) if axes[0] == b"-Y" else (first, second)
 
 
+def limited_header(source, widest, highest):
+    """Width, height, kind of colour and exposure; 1, 15 or 16, 2, 3, 4 or 5."""
+    first_line(source)
+    kind, total = said(further_lines(source))
+    width, height = sizes(source)
+    if height > min(highest, LARGEST):
+        raise Refused(4)
+    if width > min(widest, LARGEST):
+        raise Refused(5)
+    return width, height, kind, total
+
+
 def checked_header(source, widest, highest, samples, places):
     """Width and height, where the limits, the output and the row store allow them."""
-    width, height = header(source)
+    width, height, *_ = limited_header(source, widest, highest)
     for number, failed in (
-        (4, height > min(highest, LARGEST)),
-        (5, width > min(widest, LARGEST)),
         (6, samples < 3 * width * height),
         (7, width == 0),
         (8, places < 4 * width),
@@ -184,11 +268,28 @@ def lent_bytes(count):
     return bytearray(i % 251 for i in range(count))
 
 
-def answer(line):
-    """The answer to a line `readd MAXW MAXH OUTLEN STORELEN BYTES`."""
-    word, *numbers, data = line.split(" ")
-    assert word == "readd" and len(numbers) == 4, line
-    widest, highest, samples, places = map(int, numbers)
+def bytes_of(data):
+    return b"" if data == "-" else bytes.fromhex(data)
+
+
+def read_answer(widest, highest, samples, places, data):
     out, store = lent_samples(samples), lent_bytes(places)
-    words = read(b"" if data == "-" else bytes.fromhex(data), widest, highest, out, store)
+    words = read(bytes_of(data), widest, highest, out, store)
     return " ".join([*map(str, words), b"".join(out).hex() or "-", store.hex() or "-"])
+
+
+def head_answer(widest, highest, data):
+    source = Source(bytes_of(data))
+    try:
+        width, height, kind, total = limited_header(source, widest, highest)
+    except Refused as refused:
+        return f"{refused.number} 0 0 0 0 none none"
+    return f"0 0 {width} {height} {source.place} {kind or 'none'} {'none' if total is None else format(total, '08x')}"
+
+
+def answer(line):
+    """The answer to a line `readd MAXW MAXH OUTLEN STORELEN BYTES` or `headd MAXW MAXH BYTES`."""
+    word, *numbers, data = line.split(" ")
+    call, count = {"readd": (read_answer, 4), "headd": (head_answer, 2)}[word]
+    assert len(numbers) == count, line
+    return call(*map(int, numbers), data)

@@ -28,7 +28,7 @@ pub(crate) fn line(
     };
     match name {
         Name::Read(by) => reads::read(by, line, next, a, b, bytes, samples, lent, page, put),
-        Name::Head => reads::head(line, next, a, b, bytes, page, put),
+        Name::Head(by) => reads::head(by, line, next, a, b, bytes, page, put),
         Name::Size => writes::size(line, next, a, b, page, put),
         Name::Worst => writes::worst(line, next, a, b, page, put),
         Name::Length => writes::length(line, next, a, b, samples, page, put),

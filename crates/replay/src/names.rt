@@ -4,7 +4,7 @@ use steps::Reading;
 // The names of the cases.
 pub(crate) enum Name {
     Read(Reading),
-    Head,
+    Head(Reading),
     Size,
     Worst,
     Length,
@@ -40,7 +40,10 @@ pub(crate) fn name_of(field: &[u8]) -> Name {
         return Name::Read(Reading::Document);
     }
     if check::same(field, b"head") {
-        return Name::Head;
+        return Name::Head(Reading::Crate);
+    }
+    if check::same(field, b"headd") {
+        return Name::Head(Reading::Document);
     }
     if check::same(field, b"size") {
         return Name::Size;

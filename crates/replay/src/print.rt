@@ -93,15 +93,15 @@ pub(crate) fn bytes(page: &mut [u8; 65536], put: usize, values: &[u8]) -> usize
     p
 }
 
-// The bit pattern of a sample; one of no number's where it is none.
+// The bit pattern of a number; one of no number's where it is none.
 fn pattern(x: f32) -> u32
     ensures { λ r. ⌜ (eq x x ≡ true → r ≡ toBits binary32 x) ⌝ }
 {
     if x == x { f32::to_bits(x) } else { 2143289344 }
 }
 
-// A sample's bit pattern in hexadecimal.
-fn eight(page: &mut [u8; 65536], put: usize, x: f32) -> usize
+// A number's bit pattern in hexadecimal.
+pub(crate) fn eight(page: &mut [u8; 65536], put: usize, x: f32) -> usize
     requires { ⌜ put ≤ 65536 ⌝ }
     ensures { λ r. ⌜ r ≤ 65536 ⌝ }
 {

@@ -7,6 +7,8 @@ use line_fields::lent;
 use line_fields::text;
 use line_fields::text::Pair;
 use reader::ReadAnswer;
+use stated::Colour;
+use stated::Exposure;
 use steps::Reading;
 ghost use Prim.Native.Nat.{_≤_};
 
@@ -38,8 +40,55 @@ fn put_refused(page: &mut [u8; 65536], put: usize, number: u8, place: usize) -> 
     put_sizes(page, p, 0, 0, 0)
 }
 
+// ` KIND`.
+fn put_colour(page: &mut [u8; 65536], put: usize, colour: Colour) -> usize
+    requires { ⌜ put ≤ 65536 ⌝ }
+    ensures { λ r. ⌜ r ≤ 65536 ⌝ }
+{
+    match colour {
+        Colour::Rgbe => print::text(page, put, b" rgbe"),
+        Colour::Xyze => print::text(page, put, b" xyze"),
+        Colour::NotStated => print::text(page, put, b" none"),
+    }
+}
+
+// ` EXPOSURE`.
+fn put_exposure(page: &mut [u8; 65536], put: usize, exposure: Exposure) -> usize
+    requires { ⌜ put ≤ 65536 ⌝ }
+    ensures { λ r. ⌜ r ≤ 65536 ⌝ }
+{
+    match exposure {
+        Exposure::Stated(x) => {
+            let p = print::byte(page, put, 32);
+            print::eight(page, p, x)
+        }
+        Exposure::NotStated => print::text(page, put, b" none"),
+    }
+}
+
+// ` KIND EXPOSURE`, by the document reading alone.
+fn put_said(
+    reading: Reading,
+    colour: Colour,
+    exposure: Exposure,
+    page: &mut [u8; 65536],
+    put: usize,
+) -> usize
+    requires { ⌜ put ≤ 65536 ⌝ }
+    ensures { λ r. ⌜ r ≤ 65536 ⌝ }
+{
+    match reading {
+        Reading::Crate => put,
+        Reading::Document => {
+            let p = put_colour(page, put, colour);
+            put_exposure(page, p, exposure)
+        }
+    }
+}
+
 // Reads a header, and puts its answer.
 fn answer_header(
+    reading: Reading,
     bytes: &[u8],
     widest: usize,
     highest: usize,
@@ -49,10 +98,18 @@ fn answer_header(
     requires { ⌜ put ≤ 65536 ⌝ }
     ensures { λ r. ⌜ r ≤ 65536 ⌝ }
 {
-    let answer = header::read(bytes, widest, highest);
+    let answer = header::read(reading, bytes, widest, highest);
     match answer {
-        HeadAnswer::Read(head) => put_head(page, put, head),
-        HeadAnswer::Refused(refusal) => put_refused(page, put, refusal.number, refusal.place),
+        HeadAnswer::Read(head) => {
+            let colour = head.colour;
+            let exposure = head.exposure;
+            let p = put_head(page, put, head);
+            put_said(reading, colour, exposure, page, p)
+        }
+        HeadAnswer::Refused(refusal) => {
+            let p = put_refused(page, put, refusal.number, refusal.place);
+            put_said(reading, Colour::NotStated, Exposure::NotStated, page, p)
+        }
     }
 }
 
@@ -89,8 +146,9 @@ fn put_read(page: &mut [u8; 65536], put: usize, answer: ReadAnswer) -> usize
     }
 }
 
-// `head MAXW MAXH BYTES`, the last field from `at` on.
+// `head` and `headd MAXW MAXH BYTES`, the last field from `at` on.
 pub(crate) fn head(
+    by: Reading,
     line: &[u8],
     at: usize,
     widest: usize,
@@ -104,7 +162,7 @@ pub(crate) fn head(
 {
     let count = hex::bytes_at(line, at, bytes);
     match count {
-        Number::Is(n) => answer_header(&bytes[..n], widest, highest, page, put),
+        Number::Is(n) => answer_header(by, &bytes[..n], widest, highest, page, put),
         Number::Missing => print::unknown(page, put),
     }
 }

@@ -1,6 +1,7 @@
 -- `replay::print::pattern` meets its contract: what equals itself is a number.
 use borrow.Author.Needs.{needs}
-use Rattle.replay.proofs.Laws.Pattern.{self-number, no-pattern}
+use Rattle.pixel.proofs.Laws.Samples.{self-number}
+use Rattle.replay.proofs.Laws.Pattern.{no-pattern}
 use Rattle.replay.proofs.print.pattern.Statement.{statement}
 use Rattle.replay.proofs.print.pattern.Tie as tie
 
