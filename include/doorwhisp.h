@@ -35,6 +35,8 @@
  *   - A row that is none of the document's is refusal 14: one with a mark whose width is not the header's, a repeat
  *     with no pixel before it in its row, or a count or a repeat that passes the row's end.
  *   - A file that is cut in a row is refused by 9 in that row, wherever the cut is.
+ *   - The header's lines FORMAT= and EXPOSURE= are told, under "WHAT A HEADER SAYS". One that cannot be read is refusal
+ *     15 or 16.
  * doorwhisp_read reads as zune-hdr 0.5.2 does, for programs that are to show what they showed:
  *   - Light is half a step below the document's at the exponent bytes 97 to 159, the lower edge of its step. At 1 to
  *     96 it is shown too bright, at 160 to 255 too dark, by 2^32 or a power of it. 0 is black, and so is a mantissa of
@@ -44,11 +46,26 @@
  *     those pixels are black. Every other cut in a row is refusal 9.
  *   - The mark's width is not compared with the header's, and a count that passes the row's end stops there.
  *   - A flat row with an old run is refusal 25: zune-hdr's way with them gives other pixels than the document's.
+ *   - The header's lines are passed over, whatever they say: the kind of colour and the exposure are not stated.
  * In both
  *   - +X w -Y h is read row by row, as -Y h +X w is, though by the document it lies column by column;
- *   - header lines are passed over. EXPOSURE is not applied, and FORMAT is not looked at: samples of a file that
- *     states 32-bit_rle_xyze are X, Y and Z;
+ *   - samples are as they are stored: they are not divided by the exposure, and those of a file that states
+ *     32-bit_rle_xyze are X, Y and Z;
  *   - the format has no checksum: damage that leaves rows of either kind is read as some other picture.
+ *
+ * WHAT A HEADER SAYS, by the document, in the lines between its first and the blank one:
+ *   - FORMAT=32-bit_rle_rgbe and FORMAT=32-bit_rle_xyze say the kind of colour, and the last such line counts. Every
+ *     line FORMAT= with other words is refusal 15.
+ *   - EXPOSURE= says a number by which all samples were multiplied: 1 to 7 digits (leading zeros count) with a point
+ *     anywhere or none, no sign in front, then none or a power of ten: e or E, a sign or none, one or two digits. That
+ *     power (0 where there is none) less the count of digits behind the point is from -10 to 10. It is rounded once, to
+ *     the nearest float and of two as near to the even one. Several lines are multiplied in file order, each product
+ *     rounded once. What is not written so, and a number or a product that is zero or infinite, is refusal 16, whatever
+ *     follows.
+ *   - A line counts if it starts with the name and the equals sign, in these letters: " FORMAT=" and "FORMAT =" do
+ *     not. White space (bytes 9 to 13 and 32) around the rest has no part. A last line that is ended by the end of the
+ *     bytes counts too.
+ *   - Of several such faults the first in the file is answered.
  *
  * THE WRITING. A negative sample and one that is no number are written as 0, and a pixel whose largest sample is not
  * above 1e-32 as black; 2^127 and more, plus infinity too, is refusal 12. Each sample is rounded down to its step. Where
@@ -88,22 +105,31 @@ extern "C" {
 
 /* The numbers of the refusals. Of several that apply, the one that comes first in its call's list is answered. */
 enum doorwhisp_refusal {
-    DOORWHISP_FIRST_LINE = 1,    /* the first line is neither #?RADIANCE nor #?RGBE */
-    DOORWHISP_AXES = 2,          /* the axes are neither -Y h +X w nor +X w -Y h */
-    DOORWHISP_SIZE = 3,          /* the height or the width is no number below 2^64 */
-    DOORWHISP_TOO_HIGH = 4,      /* the height is over the limit */
-    DOORWHISP_TOO_WIDE = 5,      /* the width is over the limit */
-    DOORWHISP_SHORT_OUTPUT = 6,  /* the output has fewer than 3 * width * height samples */
-    DOORWHISP_NO_WIDTH = 7,      /* the width is 0 */
-    DOORWHISP_SHORT_STORE = 8,   /* the row store has fewer than 4 * width bytes */
-    DOORWHISP_BYTES_END = 9,     /* the bytes end too early, in the row that `place` names */
-    DOORWHISP_OVER_LIMIT = 10,   /* writing: the width or the height is over 65,535 */
-    DOORWHISP_WRONG_LENGTH = 11, /* writing: the frame has not 3 samples (4 bytes) to a pixel */
-    DOORWHISP_TOO_BRIGHT = 12,   /* writing: the pixel that `place` names has a sample of 2^127 or more */
-    DOORWHISP_NO_ROOM = 13,      /* writing: the file is longer than the output */
-    DOORWHISP_BROKEN_ROW = 14,   /* by the document: the row that `place` names has a wrong width, count or repeat */
-    DOORWHISP_OLD_RUN = 25,      /* as zune-hdr reads: the row that `place` names is flat and has a pixel 1, 1, 1, n */
-    DOORWHISP_NONE = 255         /* the two buffer sizes alone: the number passes 2^64 - 1 */
+    DOORWHISP_FIRST_LINE = 1,      /* the first line is neither #?RADIANCE nor #?RGBE */
+    DOORWHISP_AXES = 2,            /* the axes are neither -Y h +X w nor +X w -Y h */
+    DOORWHISP_SIZE = 3,            /* the height or the width is no number below 2^64 */
+    DOORWHISP_TOO_HIGH = 4,        /* the height is over the limit */
+    DOORWHISP_TOO_WIDE = 5,        /* the width is over the limit */
+    DOORWHISP_SHORT_OUTPUT = 6,    /* the output has fewer than 3 * width * height samples */
+    DOORWHISP_NO_WIDTH = 7,        /* the width is 0 */
+    DOORWHISP_SHORT_STORE = 8,     /* the row store has fewer than 4 * width bytes */
+    DOORWHISP_BYTES_END = 9,       /* the bytes end too early, in the row that `place` names */
+    DOORWHISP_OVER_LIMIT = 10,     /* writing: the width or the height is over 65,535 */
+    DOORWHISP_WRONG_LENGTH = 11,   /* writing: the frame has not 3 samples (4 bytes) to a pixel */
+    DOORWHISP_TOO_BRIGHT = 12,     /* writing: the pixel that `place` names has a sample of 2^127 or more */
+    DOORWHISP_NO_ROOM = 13,        /* writing: the file is longer than the output */
+    DOORWHISP_BROKEN_ROW = 14,     /* by the document: the row that `place` names has a wrong width, count or repeat */
+    DOORWHISP_UNKNOWN_FORMAT = 15, /* by the document: a FORMAT is neither 32-bit_rle_rgbe nor 32-bit_rle_xyze */
+    DOORWHISP_EXPOSURE = 16,       /* by the document: an exposure cannot be read, or is or becomes zero or infinite */
+    DOORWHISP_OLD_RUN = 25,        /* as zune-hdr reads: the row that `place` names is flat and has a pixel 1, 1, 1, n */
+    DOORWHISP_NONE = 255           /* the two buffer sizes alone: the number passes 2^64 - 1 */
+};
+
+/* The kinds of colour that a header states. */
+enum doorwhisp_colour {
+    DOORWHISP_NOT_STATED = 0, /* it states none, or it was read as zune-hdr reads */
+    DOORWHISP_RGBE = 1,       /* red, green and blue */
+    DOORWHISP_XYZE = 2        /* X, Y and Z */
 };
 
 /*
@@ -116,8 +142,8 @@ typedef struct doorwhisp_answer {
     uint64_t width;       /* of the picture that was read */
     uint64_t height;      /* of the picture that was read */
     uint64_t taken;       /* how many bytes of the input were taken; or the count that was asked for */
-    uint64_t colour;      /* 0: kept for the kind of colour that a file states */
-    uint64_t exposure;    /* 0: kept for the exposure that a file states */
+    uint64_t colour;      /* the kind of colour that the header states, or 0 */
+    uint64_t exposure;    /* the bit pattern of the exposure that it states, a float above 0; or 0: not stated */
     uint64_t orientation; /* 0: kept for how a file's rows lie */
 } doorwhisp_answer;
 
@@ -142,10 +168,23 @@ DOORWHISP_HERE const char *doorwhisp_words(uint64_t refusal) {
     case DOORWHISP_TOO_BRIGHT: return "this pixel is too bright for the format";
     case DOORWHISP_NO_ROOM: return "the output is too short for the file";
     case DOORWHISP_BROKEN_ROW: return "this row is broken, its width or a count or a repeat in it is wrong";
+    case DOORWHISP_UNKNOWN_FORMAT: return "the file states a FORMAT that is not known";
+    case DOORWHISP_EXPOSURE: return "the file states an EXPOSURE that is no number, or is or becomes zero or infinite";
     case DOORWHISP_OLD_RUN: return "this row has an old run, a pixel 1, 1, 1, n, which is not read";
     case DOORWHISP_NONE: return "the number passes 2^64 - 1";
     default: return "there is no such refusal";
     }
+}
+
+/* The exposure that an answer has, or 1 where none is stated: what samples are divided by to undo it. */
+DOORWHISP_HERE float doorwhisp_exposure(const struct doorwhisp_answer *answer) {
+    union {
+        uint32_t pattern;
+        float number;
+    } exposure;
+    if (answer->exposure == 0) return 1.0f;
+    exposure.pattern = (uint32_t)answer->exposure;
+    return exposure.number;
 }
 
 /*
@@ -172,10 +211,10 @@ DOORWHISP_HERE uint64_t doorwhisp_document_most_rows(uint64_t width, uint64_t by
 /* ---- Reading: by the document, or, in the calls without that word, as zune-hdr reads ---- */
 
 /*
- * Reads the header at the start of the bytes: width, height, and how many bytes the header takes. So far both calls do
- * the same: call the one that belongs to the reading.
+ * Reads the header at the start of the bytes: width, height, how many bytes the header takes, and by the document the
+ * kind of colour and the exposure. Call the one that belongs to the reading.
  * `widest` and `highest` are the largest width and height that the caller wants; above 65,535 they count as 65,535.
- * Refusals: 1, 2, 3, 4, 5.
+ * Refusals: 1; 15 or 16 (by the document alone), the one that comes first in the file; 2, 3, 4, 5.
  */
 void doorwhisp_read_document_header(const uint8_t *bytes, size_t bytes_length, size_t widest, size_t highest,
                                     struct doorwhisp_answer *answer);
@@ -184,13 +223,13 @@ void doorwhisp_read_header(const uint8_t *bytes, size_t bytes_length, size_t wid
 
 /*
  * Reads a whole file: its samples into the start of `out`, by way of `store`, which holds one row. Answers width,
- * height, and how many bytes the file took; bytes may follow.
+ * height, how many bytes the file took (bytes may follow), and by the document the kind of colour and the exposure.
  * `out` needs 3 * width * height samples, `store` 4 * width bytes: ask for the header first.
- * Refusals: 1, 2, 3, 4, 5, 6, 7, 8; then, in the first row at fault, 9 or 14 (as zune-hdr reads, 9 or 25). These in
- * row k leave rows 0 to k - 1 in `out` and the rest of it as it was lent; `store` then holds what was read of row k
- * over row k - 1. By the document that is whole flat pixels, copies, runs and literals, and nothing of what is at fault;
- * as zune-hdr reads, every byte as it was read, the pixel 1, 1, 1, n too. On success the first 4 * width bytes of
- * `store` are the last row, or 0 where there is none.
+ * Refusals: 1; 15 or 16 (by the document alone), the one that comes first in the file; 2, 3, 4, 5, 6, 7, 8; then, in
+ * the first row at fault, 9 or 14 (as zune-hdr reads, 9 or 25). These in row k leave rows 0 to k - 1 in `out` and the
+ * rest of it as it was lent; `store` then holds what was read of row k over row k - 1. By the document that is whole
+ * flat pixels, copies, runs and literals, and nothing of what is at fault; as zune-hdr reads, every byte as it was read,
+ * the pixel 1, 1, 1, n too. On success the first 4 * width bytes of `store` are the last row, or 0 where there is none.
  */
 void doorwhisp_read_document(const uint8_t *bytes, size_t bytes_length, size_t widest, size_t highest, float *out,
                              size_t out_length, uint8_t *store, size_t store_length, struct doorwhisp_answer *answer);

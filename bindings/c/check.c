@@ -38,10 +38,10 @@ static doorwhisp_answer read_text(const char *file, float samples[24]) {
 /* Each refusal has words of its own, and so has what is none. */
 static void hold_words(void) {
     int i, k;
-    for (i = 0; i <= 15; i++)
+    for (i = 0; i <= 17; i++)
         for (k = 0; k < i; k++) hold(strcmp(doorwhisp_words(i), doorwhisp_words(k)) != 0, "words of their own", i);
-    hold(strcmp(doorwhisp_words(DOORWHISP_OLD_RUN), doorwhisp_words(15)) != 0, "words for an old run", 25);
-    hold(strcmp(doorwhisp_words(DOORWHISP_NONE), doorwhisp_words(15)) != 0, "words for none", 255);
+    hold(strcmp(doorwhisp_words(DOORWHISP_OLD_RUN), doorwhisp_words(17)) != 0, "words for an old run", 25);
+    hold(strcmp(doorwhisp_words(DOORWHISP_NONE), doorwhisp_words(17)) != 0, "words for none", 255);
 }
 
 /*
@@ -83,7 +83,7 @@ static void hold_cuts(void) {
     }
 }
 
-/* Lines of the header are passed over, both axes are rows of w, and all eight numbers are filled. */
+/* As zune-hdr reads, lines of the header are passed over; both axes are rows of w, and all eight numbers are filled. */
 static void hold_header(void) {
     float plain[24], lines[24];
     int i;
@@ -97,14 +97,80 @@ static void hold_header(void) {
     answer = read_text(text, plain);
     for (i = 0; i < 6; i++) hold(plain[i] + ldexp(1.0, -8) == lines[i], "half a step between the readings", i);
     hold(answer.width == 2 && answer.height == 1 && answer.taken == 26, "the sizes and the count", 0);
-    hold(answer.colour == 0 && answer.exposure == 0 && answer.orientation == 0, "0 so far", 0);
-    read_text("#?RGBE\nEXPOSURE=4\nFORMAT=32-bit_rle_xyze\n\n-Y 1 +X 2\nabc\x81" "def\x81", lines);
+    hold(answer.colour == 0 && answer.exposure == 0 && answer.orientation == 0, "nothing is stated", 0);
+    answer = read_text("#?RGBE\nEXPOSURE=4\nFORMAT=32-bit_rle_xyze\n\n-Y 1 +X 2\nabc\x81" "def\x81", lines);
     hold(memcmp(plain, lines, 6 * sizeof *plain) == 0, "lines are passed over", 0);
+    hold(answer.colour == DOORWHISP_NOT_STATED && answer.exposure == 0, "nothing is told of them", 0);
+    answer = read_text("#?RGBE\nEXPOSURE=x\nFORMAT=x\n\n-Y 1 +X 2\nabc\x81" "def\x81", lines);
+    hold(answer.refusal == 0 && memcmp(plain, lines, 6 * sizeof *plain) == 0, "lines are passed over", 1);
     answer = read_text("#?RGBE\n\n+X 2 -Y 1\nabc\x81" "def\x81", lines);
     hold(answer.width == 2 && answer.height == 1, "the other axes", 0);
     hold(memcmp(plain, lines, 6 * sizeof *plain) == 0, "the other axes, row by row", 0);
     answer = read_text("#?RGBE\n\n-Y 2 +X 0\n", lines);
     hold(answer.refusal == DOORWHISP_NO_WIDTH && answer.height == 0, "no values after a refusal", 0);
+}
+
+/* What a header with these lines answers by the document, and as zune-hdr reads; both were used before. */
+static doorwhisp_answer header_of(const char *lines, doorwhisp_answer *by_crate) {
+    char text[2000];
+    doorwhisp_answer answer;
+    const size_t length = (size_t)sprintf(text, "#?RADIANCE\n%s\n-Y 1 +X 2\n", lines);
+    memset(&answer, 7, sizeof answer);
+    memset(by_crate, 7, sizeof *by_crate);
+    doorwhisp_read_header((const uint8_t *)text, length, 2, 1, by_crate);
+    doorwhisp_read_document_header((const uint8_t *)text, length, 2, 1, &answer);
+    return answer;
+}
+
+/* What the lines of a header say, by the document; as zune-hdr reads they say nothing. */
+static void hold_stated(void) {
+    static const struct {
+        const char *lines;
+        uint64_t refusal, colour, exposure;
+        float number;
+    } headers[] = {
+        {"", 0, DOORWHISP_NOT_STATED, 0, 1.0f},
+        {"FORMAT=32-bit_rle_rgbe\n", 0, DOORWHISP_RGBE, 0, 1.0f},
+        {"FORMAT=32-bit_rle_rgbe\nFORMAT= 32-bit_rle_xyze \r\n", 0, DOORWHISP_XYZE, 0, 1.0f},
+        {"FORMAT=32-bit_rle_xyze\nFORMAT=32-bit_rle_rgbe\n", 0, DOORWHISP_RGBE, 0, 1.0f},
+        {" FORMAT=x\nFORMAT =x\nEXPOSURE =x\n EXPOSURE=x\n", 0, DOORWHISP_NOT_STATED, 0, 1.0f},
+        {"EXPOSURE=1\n", 0, DOORWHISP_NOT_STATED, 0x3f800000, 1.0f},
+        {"EXPOSURE= .5\t\n", 0, DOORWHISP_NOT_STATED, 0x3f000000, 0.5f},
+        {"EXPOSURE=3\nEXPOSURE=1.5e-1\n", 0, DOORWHISP_NOT_STATED, 0x3ee66667, 3 * 0.15f},
+        {"EXPOSURE=3355445e1\n", 0, DOORWHISP_NOT_STATED, 0x4c000004, 33554448.0f},
+        {"EXPOSURE=1e-10\nEXPOSURE=1e-10\nEXPOSURE=1e-10\nEXPOSURE=1e-10\n", 0, DOORWHISP_NOT_STATED, 0x000116c2, 1e-40f},
+        {"FORMAT=16-bit_any\nFORMAT=32-bit_rle_rgbe\n", DOORWHISP_UNKNOWN_FORMAT, 0, 0, 1.0f},
+        {"FORMAT=x\nEXPOSURE=x\n", DOORWHISP_UNKNOWN_FORMAT, 0, 0, 1.0f},
+        {"EXPOSURE=x\nFORMAT=x\n", DOORWHISP_EXPOSURE, 0, 0, 1.0f},
+        {"EXPOSURE=0\n", DOORWHISP_EXPOSURE, 0, 0, 1.0f},
+        {"EXPOSURE=-1\n", DOORWHISP_EXPOSURE, 0, 0, 1.0f},
+        {"EXPOSURE=12345678\n", DOORWHISP_EXPOSURE, 0, 0, 1.0f},
+        {"EXPOSURE=1e11\n", DOORWHISP_EXPOSURE, 0, 0, 1.0f},
+        {"EXPOSURE=1e10\nEXPOSURE=1e10\nEXPOSURE=1e10\nEXPOSURE=1e10\nEXPOSURE=1e-10\n", DOORWHISP_EXPOSURE, 0, 0, 1.0f},
+    };
+    static const char file[] = "#?RGBE\nEXPOSURE=4\nFORMAT=32-bit_rle_xyze\n\n-Y 1 +X 1\n\x08\x08\x08\x88";
+    static const char wrong[] = "#?RGBE\nEXPOSURE=4\nFORMAT=x\n\n-Y 1 -X 1\n\x08\x08\x08\x88";
+    float samples[24] = {0};
+    doorwhisp_answer answer, by_crate;
+    int i;
+    for (i = 0; i < (int)(sizeof headers / sizeof *headers); i++) {
+        answer = header_of(headers[i].lines, &by_crate);
+        hold(answer.refusal == headers[i].refusal && answer.place == 0, "the refusal of a line", i);
+        hold(answer.refusal != 0 || answer.width == 2, "the sizes behind the lines", i);
+        hold(answer.colour == headers[i].colour, "the kind of colour", i);
+        hold(answer.exposure == headers[i].exposure, "the exposure", i);
+        hold(doorwhisp_exposure(&answer) == headers[i].number, "the exposure as a number", i);
+        hold(by_crate.refusal == 0 && by_crate.width == 2, "lines are passed over", i);
+        hold(by_crate.colour == 0 && by_crate.exposure == 0, "nothing is told of them", i);
+    }
+    answer = read_by_document(file, sizeof file - 1, samples);
+    hold(answer.colour == DOORWHISP_XYZE && doorwhisp_exposure(&answer) == 4.0f, "what a file states", 0);
+    hold(samples[0] == 8.5f && answer.taken == sizeof file - 1, "samples are as they are stored", 0);
+    samples[0] = 7.0f;
+    answer = read_by_document(wrong, sizeof wrong - 1, samples);
+    hold(answer.refusal == DOORWHISP_UNKNOWN_FORMAT && samples[0] == 7.0f, "15 comes before 2, and nothing is changed", 0);
+    answer = read_file(wrong, sizeof wrong - 1, samples);
+    hold(answer.refusal == DOORWHISP_AXES, "as zune-hdr reads it is 2", 0);
 }
 
 /* Whether three samples are written as these four bytes. */
@@ -188,6 +254,7 @@ int main(void) {
     hold_broken_rows();
     hold_most_rows();
     hold_header();
+    hold_stated();
     hold_writing();
     hold_version();
     return status;

@@ -2,7 +2,8 @@
  * How a C program reads and writes Radiance HDR pictures with Doorwhisp.
  *
  *     example                     makes a small frame, writes it, and reads it back
- *     example [--crate] FILE..    says how large each picture is and how bright, or why it is refused
+ *     example [--crate] FILE..    says how large each picture is, how bright, and what its header states; or why it is
+ *                                 refused
  *
  * Pictures are read by the document, or with --crate as zune-hdr reads them. The exit status is 0, or 1 where a file is
  * refused or cannot be had.
@@ -52,6 +53,13 @@ static void print_range(const float *samples, size_t count) {
     printf(", samples from %g to %g", darkest, brightest);
 }
 
+/* Prints what a header states of the kind of colour and the exposure, if it does. */
+static void print_stated(const doorwhisp_answer *answer) {
+    if (answer->colour == DOORWHISP_RGBE) printf(", rgbe");
+    if (answer->colour == DOORWHISP_XYZE) printf(", xyze");
+    if (answer->exposure != 0) printf(", exposure %g", doorwhisp_exposure(answer));
+}
+
 /* Reads a picture whose header says these sizes, and says what it is. */
 static int show_rows(const picture *p, size_t width, size_t height) {
     const size_t count = 3 * width * height, row = 4 * width;
@@ -70,6 +78,7 @@ static int show_rows(const picture *p, size_t width, size_t height) {
             printf("%s: %lu by %lu pixels, %lu of %lu bytes taken", p->name, (unsigned long)width,
                    (unsigned long)height, (unsigned long)answer.taken, (unsigned long)p->length);
             print_range(out, count);
+            print_stated(&answer);
             printf("\n");
         }
     }

@@ -1,15 +1,24 @@
 //! Says how large each picture is and how bright, or why it is refused: info [--document] FILE..
-//! With `--document` it is read by the Radiance documents, else as zune-hdr reads.
+//! With `--document` it is read by the Radiance documents, and what its header states is told; else as zune-hdr reads.
 
-use doorwhisp::{DecoderOptions, HdrDecoder, HdrError, Reading};
+use doorwhisp::{Colour, DecoderOptions, HdrDecoder, HdrError, Reading};
 use std::fs::File;
 
-/// A picture's width, height and brightest sample.
-fn look(name: &str, options: DecoderOptions) -> Result<(usize, usize, f32), HdrError> {
+/// A picture's width, height and brightest sample, and what its header states.
+fn look(name: &str, options: DecoderOptions) -> Result<String, HdrError> {
     let mut decoder = HdrDecoder::from_reader_with_options(File::open(name)?, options)?;
-    let samples = decoder.decode()?;
+    let brightest = decoder.decode()?.into_iter().fold(0.0, f32::max);
     let (width, height) = decoder.dimensions().unwrap_or_default();
-    Ok((width, height, samples.into_iter().fold(0.0, f32::max)))
+    let colour = match decoder.colour() {
+        Some(Colour::Rgbe) => ", rgbe",
+        Some(Colour::Xyze) => ", xyze",
+        None => "",
+    };
+    let exposure = decoder.exposure();
+    let exposure = exposure.map_or_else(String::new, |number| format!(", exposure {number}"));
+    Ok(format!(
+        "{width} by {height} pixels, brightest sample {brightest}{colour}{exposure}"
+    ))
 }
 
 fn main() {
@@ -20,9 +29,7 @@ fn main() {
             continue;
         }
         match look(&name, options) {
-            Ok((width, height, brightest)) => {
-                println!("{name}: {width} by {height} pixels, brightest sample {brightest}")
-            }
+            Ok(words) => println!("{name}: {words}"),
             Err(error) => println!("{name}: {error}"),
         }
     }

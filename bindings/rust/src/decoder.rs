@@ -19,6 +19,15 @@ pub enum Reading {
     Document,
 }
 
+/// The kinds of colour that a header states: what the three samples of a pixel are.
+#[derive(Clone, Copy, Debug, PartialEq, Eq)]
+pub enum Colour {
+    /// Red, green and blue: `FORMAT=32-bit_rle_rgbe`.
+    Rgbe,
+    /// X, Y and Z: `FORMAT=32-bit_rle_xyze`.
+    Xyze,
+}
+
 /// The largest width and height that are read, and the reading.
 #[derive(Clone, Copy, Debug, PartialEq, Eq)]
 pub struct DecoderOptions {
@@ -170,6 +179,8 @@ impl<'a> HdrDecoder<'a> {
         face::read_header(reading, &self.bytes, max_width, max_height).map_err(
             |Refusal { number, .. }| match number {
                 1 => HdrError::FirstLine,
+                15 => HdrError::UnknownFormat,
+                16 => HdrError::Exposure,
                 2 => HdrError::Axes,
                 3 => HdrError::Size,
                 4 => HdrError::TooHigh {
@@ -191,6 +202,29 @@ impl<'a> HdrDecoder<'a> {
     /// How many bytes the header takes, once it was read.
     pub fn header_size(&self) -> Option<usize> {
         self.head.map(|head| head.taken)
+    }
+
+    /// The kind of colour that the header states, once it was read by [`Reading::Document`], if it states one.
+    ///
+    /// ```
+    /// use doorwhisp::{Colour, DecoderOptions, HdrDecoder, Reading};
+    ///
+    /// let file = b"#?RADIANCE\nFORMAT=32-bit_rle_xyze\nEXPOSURE=2\nEXPOSURE=1.5\n\n-Y 1 +X 1\n\x08\x04\x02\x88";
+    /// let options = DecoderOptions::default().set_reading(Reading::Document);
+    /// let mut decoder = HdrDecoder::new_with_options(file, options);
+    /// assert_eq!(decoder.decode()?, [8.5, 4.5, 2.5]);
+    /// assert_eq!(decoder.colour(), Some(Colour::Xyze));
+    /// assert_eq!(decoder.exposure(), Some(3.0));
+    /// # Ok::<(), doorwhisp::HdrError>(())
+    /// ```
+    pub fn colour(&self) -> Option<Colour> {
+        self.head?.colour
+    }
+
+    /// The exposure that the header states, once it was read by [`Reading::Document`], if it states one: above 0 and
+    /// finite. Samples are not divided by it.
+    pub fn exposure(&self) -> Option<f32> {
+        self.head?.exposure
     }
 
     /// How many samples the picture has, once the header was read.

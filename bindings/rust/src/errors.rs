@@ -39,6 +39,11 @@ pub enum HdrError {
     /// 14, by the document: the row has a mark with another width than the header's, a repeat with no pixel before it,
     /// or a count or a repeat that passes its end. Memory is as after [`BytesEnd`](Self::BytesEnd).
     BrokenRow { row: usize },
+    /// 15, by the document: the header has a line `FORMAT=` that says neither `32-bit_rle_rgbe` nor `32-bit_rle_xyze`.
+    UnknownFormat,
+    /// 16, by the document: the header has a line `EXPOSURE=` that cannot be read (see
+    /// [what a header says](crate#what-a-header-says)), or the exposure is or becomes zero or infinite.
+    Exposure,
     /// 25, as the crate zune-hdr reads: the row is flat and has an old run, a pixel 1, 1, 1, n. Memory is as after
     /// [`BytesEnd`](Self::BytesEnd).
     OldRun { row: usize },
@@ -49,7 +54,7 @@ pub enum HdrError {
 }
 
 impl HdrError {
-    /// The number of the refusal, 1 to 14 or 25, if it is one.
+    /// The number of the refusal, 1 to 16 or 25, if it is one.
     pub fn number(&self) -> Option<u8> {
         Some(match self {
             Self::FirstLine => 1,
@@ -66,6 +71,8 @@ impl HdrError {
             Self::TooBright { .. } => 12,
             Self::NoRoom { .. } => 13,
             Self::BrokenRow { .. } => 14,
+            Self::UnknownFormat => 15,
+            Self::Exposure => 16,
             Self::OldRun { .. } => 25,
             Self::NoMemory { .. } | Self::Io { .. } => return None,
         })
@@ -119,6 +126,11 @@ impl fmt::Display for HdrError {
             Self::BrokenRow { row } => write!(
                 f,
                 "row {row} is broken, its width or a count or a repeat in it is wrong"
+            ),
+            Self::UnknownFormat => write!(f, "the file states a FORMAT that is not known"),
+            Self::Exposure => write!(
+                f,
+                "the file states an EXPOSURE that is no number, or is or becomes zero or infinite"
             ),
             Self::OldRun { row } => write!(
                 f,

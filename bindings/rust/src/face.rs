@@ -1,6 +1,6 @@
 //! The calls as they are linked (`include/doorwhisp.h`), each behind a safe function.
 
-use crate::{HdrError, Reading};
+use crate::{Colour, HdrError, Reading};
 use std::mem::size_of;
 
 /// What a call answers, as it fills it: the refusal's number or 0, its place or 0, and six values. A call that answers
@@ -13,9 +13,11 @@ struct Answer {
     width: u64,
     height: u64,
     taken: u64,
-    /// The last three are 0 so far.
-    _colour: u64,
-    _exposure: u64,
+    /// The kind of colour: 1 rgbe, 2 xyze, 0 not stated.
+    colour: u64,
+    /// The bit pattern of the exposure, 0 not stated.
+    exposure: u64,
+    /// 0 so far.
     _orientation: u64,
 }
 
@@ -53,12 +55,14 @@ extern "C" {
     fn doorwhisp_pixel_to_bytes(r: f32, g: f32, b: f32, bytes: &mut [u8; 4]) -> u8;
 }
 
-/// Width, height, and how many bytes were taken.
+/// Width, height, how many bytes were taken, and what the header states.
 #[derive(Clone, Copy, Debug)]
 pub struct Head {
     pub width: usize,
     pub height: usize,
     pub taken: usize,
+    pub colour: Option<Colour>,
+    pub exposure: Option<f32>,
 }
 
 /// The number of a refusal, and its row or pixel or 0.
@@ -68,7 +72,16 @@ pub struct Refusal {
     pub place: usize,
 }
 
-/// The sizes and the count, or the refusal.
+/// The kind of colour that a number is, if it is one's.
+fn colour(number: u64) -> Option<Colour> {
+    match number {
+        1 => Some(Colour::Rgbe),
+        2 => Some(Colour::Xyze),
+        _ => None,
+    }
+}
+
+/// The sizes, the count and what is stated, or the refusal.
 fn head(call: impl FnOnce(&mut Answer)) -> Result<Head, Refusal> {
     let mut answer = Answer::default();
     call(&mut answer);
@@ -77,6 +90,8 @@ fn head(call: impl FnOnce(&mut Answer)) -> Result<Head, Refusal> {
             width: answer.width as usize,
             height: answer.height as usize,
             taken: answer.taken as usize,
+            colour: colour(answer.colour),
+            exposure: (answer.exposure != 0).then(|| f32::from_bits(answer.exposure as u32)),
         }),
         number => Err(Refusal {
             number,

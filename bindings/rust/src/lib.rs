@@ -19,6 +19,8 @@
 //! - A row that is none of the document's is refusal 14: one with a mark whose width is not the header's, a repeat with
 //!   no pixel before it in its row, or a count or a repeat that passes the row's end.
 //! - A file that is cut in a row is refused by 9 in that row, wherever the cut is.
+//! - The header's lines `FORMAT=` and `EXPOSURE=` are told, as [below](#what-a-header-says). One that cannot be read is
+//!   refusal 15 or 16.
 //!
 //! [`Reading::Crate`], which is used where none is chosen, reads as zune-hdr 0.5.2 does:
 //!
@@ -30,13 +32,31 @@
 //!   pixels are black. Every other cut in a row is refusal 9.
 //! - The mark's width is not compared with the header's, and a count that passes the row's end stops there.
 //! - A flat row with an old run is refusal 25: zune-hdr's way with them gives other pixels than the document's.
+//! - The header's lines are passed over, whatever they say: the kind of colour and the exposure are not stated.
 //!
 //! In both
 //!
 //! - `+X w -Y h` is read row by row, as `-Y h +X w` is, though by the document it lies column by column;
-//! - header lines are passed over. `EXPOSURE` is not applied, and `FORMAT` is not looked at: samples of a file that
-//!   states `32-bit_rle_xyze` are X, Y and Z;
+//! - samples are as they are stored: they are not divided by the exposure, and those of a file that states
+//!   `32-bit_rle_xyze` are X, Y and Z;
 //! - the format has no checksum: damage that leaves rows of either kind is read as some other picture.
+//!
+//! # What a header says
+//!
+//! By [`Reading::Document`], in the lines between its first and the blank one
+//! ([`HdrDecoder::colour`], [`HdrDecoder::exposure`]):
+//!
+//! - `FORMAT=32-bit_rle_rgbe` and `FORMAT=32-bit_rle_xyze` say the kind of colour, and the last such line counts. Every
+//!   line `FORMAT=` with other words is refusal 15.
+//! - `EXPOSURE=` says a number by which all samples were multiplied: 1 to 7 digits (leading zeros count) with a point
+//!   anywhere or none, no sign in front, then none or a power of ten: e or E, a sign or none, one or two digits. That
+//!   power (0 where there is none) less the count of digits behind the point is from -10 to 10. It is rounded once, to
+//!   the nearest `f32` and of two as near to the even one. Several lines are multiplied in file order, each product
+//!   rounded once. What is not written so, and a number or a product that is zero or infinite, is refusal 16, whatever
+//!   follows.
+//! - A line counts if it starts with the name and the equals sign, in these letters. White space (bytes 9 to 13 and 32)
+//!   around the rest has no part. A last line that is ended by the end of the bytes counts too.
+//! - Of several such faults the first in the file is answered, after 1 and before 2.
 //!
 //! # What is written
 //!
@@ -59,7 +79,7 @@ mod errors;
 mod face;
 mod memory;
 
-pub use decoder::{DecoderOptions, HdrDecoder, Reading};
+pub use decoder::{Colour, DecoderOptions, HdrDecoder, Reading};
 pub use encoder::{EncoderOptions, HdrEncoder};
 pub use errors::HdrError;
 pub use face::{document_pixel_from_bytes, pixel_from_bytes, pixel_to_bytes};
