@@ -1,14 +1,16 @@
-"""Cases of the document reading, answered by the replay program and by compare/reading.py: document.py SEED COUNT DIFFERENCES PROGRAM.."""
+"""Cases of the document reading, files and headers, answered by the replay program and by compare/reading.py: document.py SEED COUNT DIFFERENCES PROGRAM.."""
 
 import collections
 import itertools
 import random
 import subprocess
 import sys
+from fractions import Fraction
 
+import list_document
+import list_header
 import reading
 from lines import file, hexed
-from list_document import by_hand, by_reading
 
 PART = 4000  # lines to a run of the program
 
@@ -177,19 +179,123 @@ def random_line(chance, damages):
     return line(file(w, h, rows), w, h, out, store, limits)
 
 
+# ---- what headers say
+
+
+def header(lines, sizes=b"-Y 3 +X 4\n", first=b"#?RADIANCE\n"):
+    return f"headd 65535 65535 {hexed(first + b''.join(lines) + bytes([10]) + sizes)}"
+
+
+def every_text():
+    """An EXPOSURE line of every text of up to five letters out of seven."""
+    return list_header.texts(b"07.eE+-", 5)
+
+
+def every_power():
+    """Digits with a point at each place, and every power of two digits."""
+    for digits in (b"1", b"37", b"1234567"):
+        for at in range(len(digits) + 2):
+            text = digits[:at] + b"." * (at <= len(digits)) + digits[at:]
+            for power in range(-99, 100):
+                yield header([b"EXPOSURE=%se%d\n" % (text, power)])
+
+
+def decimal(chance):
+    """An exposure as it may be written: most can be read."""
+    count = chance.choice((1, 2, 3, 6, 7, 7, 7, chance.randint(1, 7)))
+    digits = "".join(chance.choice("0123456789") for _ in range(count))
+    at = chance.randint(0, count)
+    point = chance.random() < 0.6
+    text = digits[:at] + "." + digits[at:] if point else digits
+    if chance.random() < 0.7:
+        power = chance.randint(-10, 10) + (count - at if point else 0)
+        if chance.random() < 0.05:
+            power += chance.choice((-1, 1, 20))
+        sign = "-" if power < 0 else chance.choice(("", "+"))
+        text += chance.choice("eE") + sign + format(abs(power), chance.choice(("", "02")))
+    return text.encode()
+
+
+def near_a_tie(chance):
+    """Seven digits and a power: in the middle between two f32, where there is such a number, or as close to it as one comes."""
+    power, digits = chance.randint(-10, 10), chance.randint(1000000, 9999999)
+    place = reading.nearest(digits * Fraction(10) ** power) >> 23  # 2^(place - 150) is the unit of the last place
+    # digits * 10^power are digits * factor / modulus units, and the middle is half of the modulus
+    units = Fraction(10) ** power / Fraction(2) ** (place - 150)
+    factor, modulus = units.numerator, units.denominator
+    close = (modulus // 2 + chance.choice((-1, 0, 0, 1))) * pow(factor, -1, modulus) if modulus > 1 else digits
+    return b"%de%d" % (max(1, digits - (digits - close) % modulus), power)
+
+
+BLANK = ["", "", "", " ", "\t", "\r", "\v\f", " \r"]
+ODD = (
+    b"FORMAT=16-bit_any\n", b"FORMAT=\n", b" FORMAT=x\n", b"FORMAT =x\n", b"format=x\n", b"EXPOSURE=\n", b"EXPOSURE=0\n", b"EXPOSURE=-1\n", b"EXPOSURE=1,5\n", b" EXPOSURE=x\n", b"EXPOSURE =0\n", b"EXPOSURE=nan\n",
+    b"VIEW=-vtv\n", b"# text\n", b"\r\n", b"EXPOSURE=2\r\n", b"FORMAT\n",
+)  # fmt: skip
+
+
+def random_text(chance):
+    return near_a_tie(chance) if chance.random() < 0.2 else decimal(chance)
+
+
+def random_header_line(chance, oddity):
+    blank = (lambda: chance.choice(BLANK).encode())
+    kind = chance.random()
+    if kind < oddity:
+        return chance.choice(ODD)
+    if kind < 0.3:
+        return b"FORMAT=" + blank() + chance.choice((b"32-bit_rle_rgbe", b"32-bit_rle_xyze")) + blank() + b"\n"
+    if kind < 0.8:
+        return b"EXPOSURE=" + blank() + random_text(chance) + blank() + b"\n"
+    return chance.choice(ODD[-5:])
+
+
+def damaged_bytes(chance, data):
+    at = chance.randrange(len(data) + 1)
+    byte = bytes([chance.choice(b"\n\r 0159.eE+-=FX\0\xff")])
+    return chance.choice((data[:at], data[:at] + data[at + 1:], data[:at] + byte + data[at:], data[:at] + byte + data[at + 1:]))
+
+
+def random_header(chance):
+    """Up to six lines, and now and then a wrong first line, odd sizes, a byte of all that changed, lost or put in, or the end cut off."""
+    lines = [random_header_line(chance, chance.choice((0, 0, 0.1))) for _ in range(chance.randint(0, 6))]
+    first = b"#?RGBE\n" if chance.random() < 0.99 else b"#?RGBX\n"
+    sizes = chance.choice((b"-Y 3 +X 4\n", b"+X 4 -Y 3\n", b"\n-Y 0 +X 0", b"-Y 65535 +X 65535\n")) if chance.random() < 0.95 else chance.choice((b"-X 3 +Y 4\n", b"-Y x +X 1\n", b"-Y 65536 +X 1\n", b"-Y 1 +X 65536\n", b""))
+    data = first + b"".join(lines) + b"\n" + sizes
+    if chance.random() < 0.2:
+        data = damaged_bytes(chance, data)
+    return f"headd 65535 65535 {hexed(data)}"
+
+
+def random_product(chance):
+    """Up to sixteen factors, of which many bring the product to the ends of the f32: to subnormal ones, to zero, to infinity."""
+    goal = chance.choice((None, -149, -140, -126, 127, 128))
+    texts = [random_text(chance) for _ in range(chance.randint(2, 6))]
+    if goal is not None:
+        far = b"9765625e-10" if goal < 0 else b"1024"
+        small = (b".5", b".25", b".75", b".6", b"1.5", b"3", b".3") if goal < 0 else (b"2", b"4", b"1.5", b"1.25", b"1.999999", b"4097", b"1801")
+        texts = [chance.choice((b"1", b"3", b"4095", b"18631", random_text(chance)))] + [far] * (abs(goal) // 10 - chance.randint(0, 1)) + [chance.choice(small) for _ in range(chance.randint(0, 12))]
+    return header([b"EXPOSURE=" + text + b"\n" for text in texts])
+
+
 def kinds(seed, count):
     """The kinds of cases, each with its name and its lines."""
     chance = random.Random(seed)
-    yield "the fixed list's", [line for line, _ in by_hand()] + list(by_reading())
+    yield "the fixed list's", [line for line, _ in list_document.by_hand()] + list(list_document.by_reading())
+    yield "the fixed list's headers", [line for line, _ in list_header.by_hand() if line.startswith(("readd ", "headd "))] + list(list_header.by_reading())
     yield "every mantissa and exponent", every_value()
     yield "flat rows, every short list", every_flat_row()
     yield "marks, every four bytes", every_mark()
     yield "channel codes, every short list", every_channel()
     yield "every beginning of good files", every_beginning()
     yield "wide rows", wide_rows()
+    yield "exposures, every short text", every_text()
+    yield "exposures, every power", every_power()
     yield "good files, random", (random_line(chance, 0) for _ in range(count // 5))
     yield "one damage, random", (random_line(chance, 1) for _ in range(count // 2))
     yield "several damages, random", (random_line(chance, chance.randint(2, 5)) for _ in range(count - count // 5 - count // 2))
+    yield "headers, random", (random_header(chance) for _ in range(count // 2))
+    yield "products, random", (random_product(chance) for _ in range(count // 5))
 
 
 # ---- held together
@@ -219,18 +325,18 @@ def held(program, lines, differences):
             if theirs != ours:
                 differ += 1
                 differences.write(f"{asked}\n  replay: {theirs}\n  rules:  {ours}\n")
-    return sum(numbers.values()), numbers["0"], numbers["9"], numbers["14"], differ
+    return sum(numbers.values()), *(numbers[n] for n in ("0", "9", "14", "15", "16")), differ
 
 
 def main():
     seed, count, path, *program = sys.argv[1:]
-    sums = [0] * 5
-    print("| kind of case | lines | read | 9 | 14 | other refusals | differences |")
-    print("|---|---|---|---|---|---|---|")
+    sums = [0] * 7
+    print("| kind of case | lines | read | 9 | 14 | 15 | 16 | other refusals | differences |")
+    print("|---|---|---|---|---|---|---|---|---|")
 
     def show(name, numbers):
-        lines, done, nine, fourteen, differ = numbers
-        print(f"| {name} | {lines} | {done} | {nine} | {fourteen} | {lines - done - nine - fourteen} | {differ} |", flush=True)
+        lines, *counted, differ = numbers
+        print("|", " | ".join(map(str, (name, lines, *counted, lines - sum(counted), differ))), "|", flush=True)
 
     with open(path, "w") as differences:
         for name, lines in kinds(int(seed), int(count)):

@@ -2,7 +2,7 @@
 
 import numpy
 
-from reading import Refused, Source, header
+from reading import Refused, Source, first_line, further_lines, sizes
 
 
 class Input(Source):
@@ -72,7 +72,10 @@ def sample(m, e):
 def read(data, limit, old_runs):
     """Width, height and samples, read with room enough under a limit for both sizes; or a refusal is raised."""
     source = Input(data, old_runs)
-    width, height = header(source)
+    first_line(source)
+    for _ in further_lines(source):
+        pass
+    width, height = sizes(source)
     if height > limit or width > limit:
         raise Refused(4 if height > limit else 5)
     if width == 0:

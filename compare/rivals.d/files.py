@@ -158,11 +158,12 @@ def headers():
         ("FORMAT=32-bit_rle_xyze", b"#?RADIANCE\nFORMAT=32-bit_rle_xyze\n\n"),
         ("FORMAT=16-bit_any", b"#?RADIANCE\nFORMAT=16-bit_any\n\n"),
         ("EXPOSURE=2", b"#?RADIANCE\nEXPOSURE=2\nFORMAT=32-bit_rle_rgbe\n\n"),
+        ("EXPOSURE=bright", b"#?RADIANCE\nEXPOSURE=bright\nFORMAT=32-bit_rle_rgbe\n\n"),
         ("a line without an equals sign", b"#?RADIANCE\nrpict -vp 1 2 3\nFORMAT=32-bit_rle_rgbe\n\n"),
         ("first line #?WRONG", b"#?WRONG\nFORMAT=32-bit_rle_rgbe\n\n"),
     ]
     for name, header in made:
-        wrong = name in ("FORMAT=16-bit_any", "first line #?WRONG")
+        wrong = name in ("FORMAT=16-bit_any", "EXPOSURE=bright", "first line #?WRONG")
         word = "stored samples" if name in ("FORMAT=32-bit_rle_xyze", "EXPOSURE=2") else "document"
         yield Case("header", name, file(2, 2, flat(picture), header), 2, 2, picture, wrong, word)
 

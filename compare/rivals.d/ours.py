@@ -10,6 +10,7 @@ import numpy
 
 REPLAY = os.environ["REPLAY"].split()
 READING = sys.argv[1]
+HEADER = {"readd": "headd", "read": "head"}[READING]
 LIMIT = 65535
 
 
@@ -19,8 +20,8 @@ def ask(line):
 
 
 def sizes(data):
-    """The header's answer alone, for the length of the output."""
-    return ask(f"head {LIMIT} {LIMIT} " + (data.hex() or "-"))
+    """The header's answer alone, by the same reading, for the length of the output."""
+    return ask(f"{HEADER} {LIMIT} {LIMIT} " + (data.hex() or "-"))
 
 
 def called(path):
