@@ -86,7 +86,7 @@ fn read_ours(call: Read, file: &[u8], out: &mut [f32]) {
             &mut answer,
         )
     };
-    assert_eq!(answer, [0, 0, WIDTH as u64, HEIGHT as u64, file.len() as u64, 0, 0, 0], "our reader's answer");
+    assert_eq!(answer[..5], [0, 0, WIDTH as u64, HEIGHT as u64, file.len() as u64], "our reader's answer");
 }
 
 /// The Rust's reader.
