@@ -19,7 +19,7 @@ use Rattle.pixel.proofs.Laws.Numbers.{mul-pow-pow}
 use Rattle.words.specs.Sizes.{allDigits, valueFrom, isNumber, numberFrom}
 use Rattle.words.specs.declared.sizes.Size.{Size}
 use Rattle.words.specs.declared.sizes.Size.the-variants.{Number, NoNumber}
-use Rattle.words.proofs.Laws.Sizes.{append-number, append-none, digits-below}
+use Rattle.words.proofs.Laws.Sizes.{no-number, append-number, append-none, digits-below}
 use Rattle.stated.specs.Rounded.{nearestWhole, nearestUnits, usable}
 use Rattle.stated.specs.Exposure.{ahead, isFew, powerBy, powerOf, units, unread, scaledUnits, digitUnits, pointUnits, exposureOf}
 use Rattle.stated.specs.Inner.{fewNumber, usableFactor, factorOf}
@@ -118,16 +118,16 @@ ten-least (suc k) = subst (λ (z : ℕ). 1 ≤ z) (sym (pow·suc 10 k)) (more (1
 grown : (n m : ℕ) → 1 ≤ m → n ≤ n * m
 grown n m h = subst (λ (z : ℕ). z ≤ n * m) (mul-one n) (mul-le-mul-left n h)
 
-pub ten-most : (k : ℕ) → k ≤ 10 → 10 ^ k ≤ 10000000000
-ten-most k h = subst (λ (z : ℕ). 10 ^ k ≤ z) (sym (pow-add 10 k (10 - k)) ∙ ap (λ (z : ℕ). 10 ^ z) (rest k h)) (grown (10 ^ k) (10 ^ (10 - k)) (ten-least (10 - k)))
+ten-mono : (j k : ℕ) → j ≤ k → 10 ^ j ≤ 10 ^ k
+ten-mono j k h = subst (λ (z : ℕ). 10 ^ j ≤ z) (sym (pow-add 10 j (k - j)) ∙ ap (λ (z : ℕ). 10 ^ z) (rest j k h)) (grown (10 ^ j) (10 ^ (k - j)) (ten-least (k - j)))
   where
-    rest : (k : ℕ) → k ≤ 10 → k + (10 - k) ≡ 10
-    rest k h = omega arith
+    rest : (j k : ℕ) → j ≤ k → j + (k - j) ≡ k
+    rest j k h = omega arith
 
 pub ten-fits : (n left k : ℕ) → n * 10 ^ left ≡ 10 ^ k → k ≤ 10 → 0 < left → n * 10 < 2 ^ 64
 ten-fits n left k e h l =
-    lt-of-le-of-lt (le-trans (grown (n * 10) (10 ^ (left - 1)) (ten-least (left - 1))) (le-trans (le-of-eq (ten-more n left (10 ^ k) e l)) (ten-most k h)))
-    (lit< {m = 10000000000} {n = 2 ^ 64} tt)
+    lt-of-le-of-lt (le-trans (grown (n * 10) (10 ^ (left - 1)) (ten-least (left - 1))) (le-trans (le-of-eq (ten-more n left (10 ^ k) e l)) (ten-mono k 10 h)))
+    (lit< {m = 10 ^ 10} {n = 2 ^ 64} tt)
 
 -- ---- 1 to so many digits
 
@@ -158,13 +158,7 @@ module _ (a b most : ℕ) where
 -- what few digits stand for is a number below 2^64
 module _ (most : ℕ) (zs : List ℕ) (M : most ≤ 7) where
   value-below : allDigits zs ≡ true → length zs ≤ most → valueFrom 0 zs < 2 ^ 24
-  value-below d h = lt-of-lt-of-le (digits-below 0 zs d) (le-trans (le-of-eq (one-mul (10 ^ length zs))) (le-trans (seven (length zs) (le-trans h M)) (lit≤ {m = 10000000} {n = 2 ^ 24} tt)))
-    where
-      rest : (k : ℕ) → k ≤ 7 → k + (7 - k) ≡ 7
-      rest k h = omega arith
-
-      seven : (k : ℕ) → k ≤ 7 → 10 ^ k ≤ 10000000
-      seven k h = subst (λ (z : ℕ). 10 ^ k ≤ z) (sym (pow-add 10 k (7 - k)) ∙ ap (λ (z : ℕ). 10 ^ z) (rest k h)) (grown (10 ^ k) (10 ^ (7 - k)) (ten-least (7 - k)))
+  value-below d h = lt-of-lt-of-le (digits-below 0 zs d) (le-trans (le-of-eq (one-mul (10 ^ length zs))) (le-trans (ten-mono (length zs) 7 (le-trans h M)) (lit≤ {m = 10 ^ 7} {n = 2 ^ 24} tt)))
 
   few-number : (leb 1 (length zs) && leb (length zs) most) ≡ true → numberFrom 0 zs ≡ fewNumber most zs
   unfolding numberFrom isNumber fewNumber isFew
@@ -177,6 +171,24 @@ module _ (most : ℕ) (zs : List ℕ) (M : most ≤ 7) where
 few-not : (most : ℕ) (zs : List ℕ) → (leb 1 (length zs) && leb (length zs) most) ≡ false → NoNumber ≡ fewNumber most zs
 unfolding fewNumber isFew
 few-not most zs e = rw e
+
+few-by : (most : ℕ) (zs : List ℕ) (t : Bool) → isFew most zs ≡ t → fewNumber most zs ≡ pick t (Number (valueFrom 0 zs)) NoNumber
+unfolding fewNumber
+few-by most zs t e = rw e
+
+few-is : (most : ℕ) (zs : List ℕ) (n : ℕ) → fewNumber most zs ≡ Number n → (isFew most zs ≡ true) × (valueFrom 0 zs ≡ n)
+few-is most zs n e = go (isFew most zs) refl
+  where
+    go : (t : Bool) → isFew most zs ≡ t → (isFew most zs ≡ true) × (valueFrom 0 zs ≡ n)
+    go true h = let is : Number (valueFrom 0 zs) ≡ Number n = sym (few-by most zs true h) ∙ e in (h, cc)
+    go false h = absurd (no-number n (sym e ∙ few-by most zs false h))
+
+few-none : (most : ℕ) (zs : List ℕ) → fewNumber most zs ≡ NoNumber → isFew most zs ≡ false
+few-none most zs e = go (isFew most zs) refl
+  where
+    go : (t : Bool) → isFew most zs ≡ t → isFew most zs ≡ false
+    go true h = absurd (no-number (valueFrom 0 zs) (sym (few-by most zs true h) ∙ e))
+    go false h = h
 
 -- digits in two parts, counted together
 module _ (whole after : List ℕ) (most : ℕ) (r : Bool) (er : r ≡ (leb 1 (length whole + length after) && leb (length whole + length after) most)) where
@@ -203,29 +215,11 @@ module _ (minus : Bool) (digits none : List ℕ) (s : Size) (en : none ≡ take 
   unfolding powerBy
   by-few t e = rw e
 
-  number-by : (t : Bool) → isFew 2 digits ≡ t → fewNumber 2 digits ≡ pick t (Number (valueFrom 0 digits)) NoNumber
-  unfolding fewNumber
-  number-by t e = rw e
-
-  apart : (n : ℕ) → Number n ≡ NoNumber → ⊥
-  apart n e = let z : _≡_ {A = ℕ} 0 1 = cc in omega arith
-
   pub power-none : s ≡ NoNumber → NoPower ≡ powerBy minus digits
-  power-none h = go (isFew 2 digits) refl
-    where
-      go : (t : Bool) → isFew 2 digits ≡ t → NoPower ≡ powerBy minus digits
-      go true e = absurd (apart (valueFrom 0 digits) (sym (number-by true e) ∙ sym two ∙ h))
-      go false e = sym (by-few false e)
+  power-none h = sym (by-few false (few-none 2 digits (sym two ∙ h)))
 
   value : (p : ℕ) → s ≡ Number p → powerBy minus digits ≡ pick minus (Lowered p) (Raised p)
-  value p h = go (isFew 2 digits) refl
-    where
-      go : (t : Bool) → isFew 2 digits ≡ t → powerBy minus digits ≡ pick minus (Lowered p) (Raised p)
-      go true e =
-          let is : Number (valueFrom 0 digits) ≡ Number p = sym (number-by true e) ∙ sym two ∙ h in
-          let v : valueFrom 0 digits ≡ p = cc in
-          by-few true e ∙ ap (λ (n : ℕ). pick minus (Lowered n) (Raised n)) v
-      go false e = absurd (apart p (sym h ∙ two ∙ number-by false e))
+  value p h = let f = few-is 2 digits p (sym two ∙ h) in by-few true (f .0) ∙ ap (λ (n : ℕ). pick minus (Lowered n) (Raised n)) (f .1)
 
   pub power-lowered : (p : ℕ) → s ≡ Number p → minus ≡ true → Lowered p ≡ powerBy minus digits
   power-lowered p h e = sym (value p h ∙ ap (λ (t : Bool). pick t (Lowered p) (Raised p)) e)
@@ -307,7 +301,7 @@ over-ten n t k h e = reach n t h (subst (λ (z : ℕ). 1 ≤ z) (sym e) (ten-lea
     reach n t h k = omega arith
 
 ten-under : (t k : ℕ) → t ≡ 10 ^ k → k ≤ 10 → t ≤ 2 ^ 34
-ten-under t k e h = le-trans (subst (λ (z : ℕ). z ≤ 10000000000) (sym e) (ten-most k h)) (lit≤ {m = 10000000000} {n = 2 ^ 34} tt)
+ten-under t k e h = le-trans (subst (λ (z : ℕ). z ≤ 10 ^ 10) (sym e) (ten-mono k 10 h)) (lit≤ {m = 10 ^ 10} {n = 2 ^ 34} tt)
 
 pub raised-under : (t p after : ℕ) → t ≡ 10 ^ (after - p) → after ≤ 7 → t ≤ 2 ^ 34
 raised-under t p after e h = ten-under t (after - p) e (omega arith)
@@ -385,27 +379,6 @@ by-none n after power e = ap (λ (w : Power). factorOf (scaledUnits n w after)) 
 by-digits : (whole after : List ℕ) (power : Power) (t : Bool) → isFew 7 (whole ++ after) ≡ t → digitUnits whole after power ≡ pick t (scaledUnits (valueFrom 0 (whole ++ after)) power (length after)) unread
 unfolding digitUnits
 by-digits whole after power t e = rw e
-
-few-by : (most : ℕ) (zs : List ℕ) (t : Bool) → isFew most zs ≡ t → fewNumber most zs ≡ pick t (Number (valueFrom 0 zs)) NoNumber
-unfolding fewNumber
-few-by most zs t e = rw e
-
-no-number : (n : ℕ) → Number n ≡ NoNumber → ⊥
-no-number n e = let z : _≡_ {A = ℕ} 0 1 = cc in omega arith
-
-few-is : (most : ℕ) (zs : List ℕ) (n : ℕ) → fewNumber most zs ≡ Number n → (isFew most zs ≡ true) × (valueFrom 0 zs ≡ n)
-few-is most zs n e = go (isFew most zs) refl
-  where
-    go : (t : Bool) → isFew most zs ≡ t → (isFew most zs ≡ true) × (valueFrom 0 zs ≡ n)
-    go true h = let is : Number (valueFrom 0 zs) ≡ Number n = sym (few-by most zs true h) ∙ e in (h, cc)
-    go false h = absurd (no-number n (sym e ∙ few-by most zs false h))
-
-few-none : (most : ℕ) (zs : List ℕ) → fewNumber most zs ≡ NoNumber → isFew most zs ≡ false
-few-none most zs e = go (isFew most zs) refl
-  where
-    go : (t : Bool) → isFew most zs ≡ t → isFew most zs ≡ false
-    go true h = absurd (no-number (valueFrom 0 zs) (sym (few-by most zs true h) ∙ e))
-    go false h = h
 
 few-parts : (most : ℕ) (zs : List ℕ) → isFew most zs ≡ true → (length zs ≤ most) × (allDigits zs ≡ true)
 unfolding isFew

@@ -91,7 +91,7 @@ module _ (n x : ℕ) where
 
 -- ---- Digit after digit
 
-no-number : (k : ℕ) → Number k ≡ NoNumber → ⊥
+pub no-number : (k : ℕ) → Number k ≡ NoNumber → ⊥
 no-number k e = let z : _≡_ {A = ℕ} 0 1 = cc in omega arith
 
 module _ (n x : ℕ) (xs : List ℕ) where
