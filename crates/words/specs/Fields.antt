@@ -1,12 +1,10 @@
--- RULES 3.3 to 3.5: four fields, with white space trimmed at both ends, and the axes that they name.
+-- RULES 3.3 and 3.4: four fields, with white space trimmed at both ends.
 use Prim.Native.Nat.{ℕ}
 use mathlib.Core.Bool.{Bool, _&&_, _||_}
 use mathlib.Core.List.{List, [], _∷_, reverse}
 use lib.Dec.{eqb, leb}
 use Rattle.steps.specs.Loop.{pick}
-use Rattle.words.specs.Lines.{lineFeed, space, past, between, same}
-use Rattle.words.specs.declared.fields.Axes.{Axes}
-use Rattle.words.specs.declared.fields.Axes.the-variants.{HeightFirst, WidthFirst, Other}
+use Rattle.words.specs.Lines.{lineFeed, space, past, between}
 
 -- white space: 9 to 13, and 32
 unfoldable pub isBlank : ℕ → Bool
@@ -45,17 +43,3 @@ fieldsAt bytes at =
       fourth = trim (between bytes c d);
       taken = d;
     }
-
--- ---- Axes
-
-abbrev pub minusY : List ℕ
-minusY = 45 ∷ 89 ∷ []
-
-abbrev pub plusX : List ℕ
-plusX = 43 ∷ 88 ∷ []
-
--- the axes that the first and third fields name: -Y and +X, +X and -Y, or any others
-unfoldable pub axesOf : List ℕ → List ℕ → Axes
-axesOf first third =
-    pick (same first minusY) (pick (same third plusX) HeightFirst Other)
-    (pick (same first plusX) (pick (same third minusY) WidthFirst Other) Other)

@@ -1,7 +1,6 @@
 // Fields: parts of the bytes without the white space at their ends.
-use crate::lines;
 ghost use mathlib.Core.Path.{_≡_};
-ghost use Rattle.words.specs.Fields.{isBlank, trimStart, trimEnd, trim, axesOf};
+ghost use Rattle.words.specs.Fields.{isBlank, trimStart, trimEnd, trim};
 
 // White space: 9 to 13, and 32.
 fn is_blank(x: u8) -> bool
@@ -51,30 +50,4 @@ pub fn trim(part: &[u8]) -> &[u8]
     ensures { λ r. ⌜ now r ≡ trim (now (part .entry)) ⌝ }
 {
     trim_end(trim_start(part))
-}
-
-// What the first and third fields say together.
-pub enum Axes {
-    HeightFirst,
-    WidthFirst,
-    Other,
-}
-
-// Which of height and width comes first.
-pub fn axes_of(first: &[u8], third: &[u8]) -> Axes
-    ensures { λ r. ⌜ r ≡ axesOf (now (first .entry)) (now (third .entry)) ⌝ }
-{
-    if lines::same(first, b"-Y") {
-        if lines::same(third, b"+X") {
-            return Axes::HeightFirst;
-        }
-        return Axes::Other;
-    }
-    if lines::same(first, b"+X") {
-        if lines::same(third, b"-Y") {
-            return Axes::WidthFirst;
-        }
-        return Axes::Other;
-    }
-    Axes::Other
 }

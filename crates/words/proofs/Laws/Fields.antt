@@ -10,9 +10,7 @@ use lib.ListN.{length, getD, take, drop, drop-of-length-le, length-drop}
 use lib.Seq.{drop-cons, take-suc, take-all}
 use lib.Dec.{leb}
 use Rattle.steps.specs.Loop.{pick}
-use Rattle.words.specs.Lines.{same}
-use Rattle.words.specs.Fields.{isBlank, trimStart, trimEnd, axesOf, minusY, plusX}
-use Rattle.words.specs.declared.fields.Axes.the-variants.{HeightFirst, WidthFirst, Other}
+use Rattle.words.specs.Fields.{isBlank, trimStart, trimEnd}
 
 -- ---- White space
 
@@ -85,29 +83,3 @@ module _ (part : List ℕ) (i : ℕ) (w : List ℕ) (is : trimEnd (take i part) 
 
     pub end-stop : (r : List ℕ) → t ≡ false → r ≡ take (i - 0) part → r ≡ w
     end-stop r k er = from-start r er ∙ sym (last ∙ rw k) ∙ is
-
--- ---- Axes
-
-module _ (first third : List ℕ) (s : Bool) (is : s ≡ same first minusY) where
-  module _ (yes : s ≡ true) (t : Bool) (it : t ≡ same third plusX) where
-    pub axes-height : t ≡ true → HeightFirst ≡ axesOf first third
-    unfolding axesOf
-    axes-height k = simp (sym is, yes, sym it, k)
-
-    pub axes-no-width : t ≡ false → Other ≡ axesOf first third
-    unfolding axesOf
-    axes-no-width k = simp (sym is, yes, sym it, k)
-
-  module _ (no : s ≡ false) (u : Bool) (iu : u ≡ same first plusX) where
-    pub axes-none : u ≡ false → Other ≡ axesOf first third
-    unfolding axesOf
-    axes-none k = simp (sym is, no, sym iu, k)
-
-    module _ (yes : u ≡ true) (t : Bool) (it : t ≡ same third minusY) where
-      pub axes-width : t ≡ true → WidthFirst ≡ axesOf first third
-      unfolding axesOf
-      axes-width k = simp (sym is, no, sym iu, yes, sym it, k)
-
-      pub axes-no-height : t ≡ false → Other ≡ axesOf first third
-      unfolding axesOf
-      axes-no-height k = simp (sym is, no, sym iu, yes, sym it, k)

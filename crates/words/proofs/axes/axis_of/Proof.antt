@@ -1,8 +1,8 @@
--- `words::fields::axes_of` meets its contract: each `return` is a case of `axesOf`.
+-- `words::axes::axis_of` meets its contract: each `return` is a case of `axisOf`.
 use borrow.Author.Needs.{needs}
-use Rattle.words.proofs.Laws.Fields.{axes-height, axes-no-width, axes-width, axes-no-height, axes-none}
-use Rattle.words.proofs.fields.axes_of.Statement.{statement}
-use Rattle.words.proofs.fields.axes_of.Tie as tie
+use Rattle.words.proofs.Laws.Axes.{axis-down, axis-up, axis-right, axis-left, axis-neither}
+use Rattle.words.proofs.axes.axis_of.Statement.{statement}
+use Rattle.words.proofs.axes.axis_of.Tie as tie
 
 slice-aggregate-same : tie.Need-slice-aggregate-same
 slice-aggregate-same c = search needs
@@ -10,17 +10,17 @@ slice-aggregate-same c = search needs
 same-requires : tie.Need-same-requires
 same-requires c κs = search needs
 
+returns : tie.Need-returns
+returns c = search axis-down
+
 slice-aggregate-same-2 : tie.Need-slice-aggregate-same-2
 slice-aggregate-same-2 c = search needs
 
 same-requires-2 : tie.Need-same-requires-2
 same-requires-2 c κs = search needs
 
-returns : tie.Need-returns
-returns c = search axes-height
-
 returns-2 : tie.Need-returns-2
-returns-2 c = search axes-no-width
+returns-2 c = search axis-up
 
 slice-aggregate-same-3 : tie.Need-slice-aggregate-same-3
 slice-aggregate-same-3 c = search needs
@@ -28,35 +28,35 @@ slice-aggregate-same-3 c = search needs
 same-requires-3 : tie.Need-same-requires-3
 same-requires-3 c κs = search needs
 
+returns-3 : tie.Need-returns-3
+returns-3 c = search axis-right
+
 slice-aggregate-same-4 : tie.Need-slice-aggregate-same-4
 slice-aggregate-same-4 c = search needs
 
 same-requires-4 : tie.Need-same-requires-4
 same-requires-4 c κs = search needs
 
-returns-3 : tie.Need-returns-3
-returns-3 c = search axes-width
-
 returns-4 : tie.Need-returns-4
-returns-4 c = search axes-no-height
+returns-4 c = search axis-left
 
 returns-5 : tie.Need-returns-5
-returns-5 c = search axes-none
+returns-5 c = search axis-neither
 
-pub axes-of-spec : {M : Type 1} → statement M
-axes-of-spec =
+pub axis-of-spec : {M : Type 1} → statement M
+axis-of-spec =
     tie.close
     (tie.spec
     slice-aggregate-same
     same-requires
+    returns
     slice-aggregate-same-2
     same-requires-2
-    returns
     returns-2
     slice-aggregate-same-3
     same-requires-3
+    returns-3
     slice-aggregate-same-4
     same-requires-4
-    returns-3
     returns-4
     returns-5)
