@@ -1,0 +1,2 @@
+-- `Laws` has the laws of the definitions in `specs/`.
+pub mod Laws
