@@ -1,16 +1,20 @@
 -- What reading the header answers (RULES 3.5 to 3.7), with the checks 1 to 5, 15 and 16 (RULES 2.2).
 use Prim.Native.Nat.{ℕ, min}
-use mathlib.Core.Bool.{Bool, true, false, not, _&&_}
+use mathlib.Core.Bool.{Bool, true, not, _&&_, _||_}
 use mathlib.Core.List.{List, [], _∷_}
 use mathlib.Core.Path.{_≡_}
 use lib.Dec.{ltb}
 use Rattle.steps.specs.Answer.{Answer, done, refuse, refusalOf, Check, check, checked}
+use Rattle.steps.specs.Loop.{pick}
 use Rattle.steps.specs.declared.Reading.{Reading}
+use Rattle.steps.specs.declared.Reading.the-variants.{Crate, Document}
 use Rattle.words.specs.Lines.{lineFeed, past, firstLine, isFirst, linesEnd}
-use Rattle.words.specs.Fields.{Fields, fieldsAt, axesOf}
+use Rattle.words.specs.Fields.{Fields, fieldsAt}
+use Rattle.words.specs.Axes.{upright, axesOf}
 use Rattle.words.specs.Sizes.{sizeOf, isSize}
-use Rattle.words.specs.declared.fields.Axes.{Axes}
-use Rattle.words.specs.declared.fields.Axes.the-variants.{HeightFirst, WidthFirst, Other}
+use Rattle.words.specs.declared.axes.Axes.{Axes}
+use Rattle.words.specs.declared.axes.Axes.the-variants.{Named, Other}
+use Rattle.words.specs.declared.axes.Orientation.{Orientation}
 use Rattle.stated.specs.declared.Said.{Said}
 use Rattle.stated.specs.Said.{saidBy, faultOf, heardIn}
 use Rattle.header.specs.declared.Head.{Head}
@@ -21,22 +25,33 @@ use Rattle.header.specs.declared.HeadAnswer.the-variants.{Read, Refused}
 unfoldable pub fieldsOf : List ℕ → Fields
 fieldsOf bytes = fieldsAt bytes (linesEnd bytes (past lineFeed bytes 0))
 
--- -Y h +X w and +X w -Y h both give rows of w: the field of the height, and that of the width
+-- the size behind Y is the height and that behind X the width, whichever is named first
 abbrev pub heightField : Axes → Fields → List ℕ
-heightField HeightFirst f = f .second
-heightField WidthFirst f = f .fourth
+heightField (Named o) f = pick (o .columns) (f .fourth) (f .second)
 heightField Other f = []
 
 abbrev pub widthField : Axes → Fields → List ℕ
-widthField HeightFirst f = f .fourth
-widthField WidthFirst f = f .second
+widthField (Named o) f = pick (o .columns) (f .second) (f .fourth)
 widthField Other f = []
 
--- any axes but these two pairs
-abbrev pub isOther : Axes → Bool
-isOther HeightFirst = false
-isOther WidthFirst = false
-isOther Other = true
+-- by the document reading any of the eight, by the crate reading -Y +X and +X -Y alone
+abbrev pub takes : Reading → Orientation → Bool
+takes Crate o = not (o .upward || o .leftward)
+takes Document o = true
+
+-- any other pair of axes
+abbrev pub isOther : Reading → Axes → Bool
+isOther reading (Named o) = not (takes reading o)
+isOther reading Other = true
+
+-- how the stored rows lie: by the crate reading both pairs are h rows of w, from the top and from the left
+abbrev pub liesBy : Reading → Orientation → Orientation
+liesBy Crate o = upright
+liesBy Document o = o
+
+abbrev pub orientationOf : Reading → Axes → Orientation
+orientationOf reading (Named o) = liesBy reading o
+orientationOf reading Other = upright
 
 -- a limit above 65,535 counts as 65,535
 abbrev pub limit : ℕ → ℕ
@@ -51,8 +66,8 @@ sizeChecks height width widest highest =
     ∷ []
 
 -- the checks 2 to 5: axes are judged before numbers
-abbrev pub fieldChecks : Axes → Fields → ℕ → ℕ → List Check
-fieldChecks axes f widest highest = check 2 (isOther axes) ∷ sizeChecks (heightField axes f) (widthField axes f) widest highest
+abbrev pub fieldChecks : Reading → Axes → Fields → ℕ → ℕ → List Check
+fieldChecks reading axes f widest highest = check 2 (isOther reading axes) ∷ sizeChecks (heightField axes f) (widthField axes f) widest highest
 
 -- what the lines after the first say, by a reading
 unfoldable pub saidIn : Reading → List ℕ → Answer Said
@@ -62,28 +77,30 @@ saidIn reading bytes = saidBy reading bytes (past lineFeed bytes 0)
 unfoldable pub headChecks : Reading → List ℕ → ℕ → ℕ → List Check
 headChecks reading bytes widest highest =
     let f = fieldsOf bytes in
-    check 1 (not (isFirst (firstLine bytes))) ∷ faultOf (saidIn reading bytes) ∷ fieldChecks (axesOf (f .first) (f .third)) f widest highest
+    check 1 (not (isFirst (firstLine bytes))) ∷ faultOf (saidIn reading bytes) ∷ fieldChecks reading (axesOf (f .first) (f .third)) f widest highest
 
--- a header whose lines say this, of this width and height, and so many bytes taken
-abbrev pub head : Said → ℕ → ℕ → ℕ → Head
-head said width height taken = record { width = width; height = height; taken = taken; colour = said .colour; exposure = said .exposure }
+-- a header whose lines say this and whose rows lie so, of this width and height, and so many bytes taken
+abbrev pub head : Said → Orientation → ℕ → ℕ → ℕ → Head
+head said lies width height taken =
+    record { width = width; height = height; taken = taken; colour = said .colour; exposure = said .exposure; orientation = lies }
 
 -- the same header, with another count of bytes taken
 abbrev pub taking : Head → ℕ → Head
-taking head taken = record { width = head .width; height = head .height; taken = taken; colour = head .colour; exposure = head .exposure }
+taking head taken =
+    record { width = head .width; height = head .height; taken = taken; colour = head .colour; exposure = head .exposure; orientation = head .orientation }
 
--- width, height, the count of bytes taken, and what the lines say
-abbrev pub headBy : Said → List ℕ → List ℕ → ℕ → Head
-headBy said height width taken = head said (sizeOf width) (sizeOf height) taken
+-- width, height, the count of bytes taken, what the lines say, and how the rows lie
+abbrev pub headBy : Said → Orientation → List ℕ → List ℕ → ℕ → Head
+headBy said lies height width taken = head said lies (sizeOf width) (sizeOf height) taken
 
-unfoldable pub headOf : Said → Fields → Head
-headOf said f =
+unfoldable pub headOf : Reading → Said → Fields → Head
+headOf reading said f =
     let axes = axesOf (f .first) (f .third) in
-    headBy said (heightField axes f) (widthField axes f) (f .taken)
+    headBy said (orientationOf reading axes) (heightField axes f) (widthField axes f) (f .taken)
 
 -- the header of the bytes
 abbrev pub headIn : Reading → List ℕ → Head
-headIn reading bytes = headOf (heardIn (saidIn reading bytes)) (fieldsOf bytes)
+headIn reading bytes = headOf reading (heardIn (saidIn reading bytes)) (fieldsOf bytes)
 
 -- what reading the header answers
 unfoldable pub headerOf : Reading → List ℕ → ℕ → ℕ → Answer Head

@@ -6,7 +6,7 @@ use lib.Dec.{ltb}
 use Rattle.steps.specs.declared.Reading.{Reading}
 use Rattle.steps.specs.declared.Reading.the-variants.{Crate, Document}
 use Rattle.words.specs.Lines.{lineFeed, space, radianceLine}
-use Rattle.words.specs.Fields.{minusY, plusX}
+use Rattle.words.specs.Axes.{minusY, plusX}
 use Rattle.stated.specs.declared.Said.{Said}
 use Rattle.stated.specs.declared.Colour.the-variants.{Rgbe}
 use Rattle.stated.specs.Said.{nothing, coloured}

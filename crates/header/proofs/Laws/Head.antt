@@ -1,6 +1,6 @@
 -- The laws that proofs use of `specs/Head.antt`, and that two answers which meet the promise of `header::read` are equal.
 use Prim.Native.Nat.{ℕ, _<_, _≤_, min}
-use mathlib.Core.Bool.{Bool, true, false, _&&_}
+use mathlib.Core.Bool.{Bool, true, false, not, _&&_}
 use mathlib.Core.List.{List, _∷_}
 use mathlib.Core.Path.{_≡_, refl, sym, ap, subst, _∙_}
 use native.Mathlib.Omega.{arith}
@@ -9,9 +9,11 @@ use lib.ListN.{length}
 use Rattle.steps.specs.Loop.{pick}
 use Rattle.steps.specs.Answer.{Answer, refuse, refused, done, Check}
 use Rattle.steps.specs.declared.Reading.{Reading}
+use Rattle.steps.specs.declared.Reading.the-variants.{Crate, Document}
 use Rattle.steps.proofs.Laws.Answer.{Passed, passed, callOf, one-answer}
 use Rattle.words.specs.Lines.{lineFeed, space, past, between, firstLine, isFirst, linesEnd}
-use Rattle.words.specs.Fields.{Fields, trim, fieldsAt, axesOf}
+use Rattle.words.specs.Fields.{Fields, trim, fieldsAt}
+use Rattle.words.specs.Axes.{upright, axesOf}
 use Rattle.words.specs.Sizes.{sizeOf, isSize}
 use Rattle.words.specs.Inner.{sizeAnswer}
 use Rattle.words.proofs.Laws.Lines.{past-within, lines-within}
@@ -20,12 +22,13 @@ use Rattle.stated.specs.declared.SaidAnswer.{SaidAnswer}
 use Rattle.stated.specs.declared.SaidAnswer.the-variants as answer
 use Rattle.stated.specs.Said as stated
 use Rattle.stated.specs.Said.{saidBy, faultOf}
-use Rattle.header.specs.Head.{head, fieldsOf, heightField, widthField, isOther, saidIn, fieldChecks, headOf, headIn, headChecks, headerOf, paperOf, HeaderPromise}
-use Rattle.header.specs.Inner.{sizesAnswer, fieldsAnswer}
+use Rattle.header.specs.Head.{takes, liesBy, orientationOf, head, fieldsOf, heightField, widthField, isOther, saidIn, fieldChecks, headOf, headIn, headChecks, headerOf, paperOf, HeaderPromise}
+use Rattle.header.specs.Inner.{sizesAnswer, namedAnswer, fieldsAnswer}
 use Rattle.words.specs.declared.sizes.Size.{Size}
 use Rattle.words.specs.declared.sizes.Size.the-variants.{Number, NoNumber}
-use Rattle.words.specs.declared.fields.Axes.{Axes}
-use Rattle.words.specs.declared.fields.Axes.the-variants.{HeightFirst, WidthFirst, Other}
+use Rattle.words.specs.declared.axes.Axes.{Axes}
+use Rattle.words.specs.declared.axes.Axes.the-variants.{Named, Other}
+use Rattle.words.specs.declared.axes.Orientation.{Orientation}
 use Rattle.stated.proofs.Laws.Usable.{Above, said-above}
 use Rattle.header.specs.declared.Head.{Head}
 use Rattle.header.specs.declared.HeadAnswer.{HeadAnswer}
@@ -51,13 +54,13 @@ module _ (field : List ℕ) (s : Size) (is : s ≡ sizeAnswer field) where
 
 -- ---- The sizes
 
-module _ (said : Said) (height width : List ℕ) (taken widest highest : ℕ) (s : Size) (is : s ≡ sizeAnswer height) where
-  pub sizes-no-height : (a : Answer Head) → s ≡ NoNumber → a ≡ refuse 3 → a ≡ sizesAnswer said height width taken widest highest
+module _ (said : Said) (lies : Orientation) (height width : List ℕ) (taken widest highest : ℕ) (s : Size) (is : s ≡ sizeAnswer height) where
+  pub sizes-no-height : (a : Answer Head) → s ≡ NoNumber → a ≡ refuse 3 → a ≡ sizesAnswer said lies height width taken widest highest
   unfolding sizesAnswer
   sizes-no-height a n e = e ∙ simp (no-size height s is _ refl n)
 
   module _ (h : ℕ) (eh : s ≡ Number h) (t : Size) (it : t ≡ sizeAnswer width) where
-    pub sizes-no-width : (a : Answer Head) → t ≡ NoNumber → a ≡ refuse 3 → a ≡ sizesAnswer said height width taken widest highest
+    pub sizes-no-width : (a : Answer Head) → t ≡ NoNumber → a ≡ refuse 3 → a ≡ sizesAnswer said lies height width taken widest highest
     unfolding sizesAnswer
     sizes-no-width a n e = e ∙ simp (is-size height s is h _ refl eh .0, no-size width t it _ refl n)
 
@@ -71,24 +74,46 @@ module _ (said : Said) (height width : List ℕ) (taken widest highest : ℕ) (s
       width-is : sizeOf width ≡ w
       width-is = is-size width t it w _ refl ew .1
 
-      pub sizes-high : (a : Answer Head) → l < h → a ≡ refuse 4 → a ≡ sizesAnswer said height width taken widest highest
+      pub sizes-high : (a : Answer Head) → l < h → a ≡ refuse 4 → a ≡ sizesAnswer said lies height width taken widest highest
       unfolding sizesAnswer
       sizes-high a over e = let k : min highest 65535 < h = rw (← el) over in e ∙ simp (both, height-is, lt-ltb (min highest 65535) h k)
 
       module _ (fits : h ≤ l) (m : ℕ) (em : m ≡ min widest 65535) where
-        pub sizes-wide : (a : Answer Head) → m < w → a ≡ refuse 5 → a ≡ sizesAnswer said height width taken widest highest
+        pub sizes-wide : (a : Answer Head) → m < w → a ≡ refuse 5 → a ≡ sizesAnswer said lies height width taken widest highest
         unfolding sizesAnswer
         sizes-wide a over e =
             let i : h ≤ min highest 65535 = rw (← el) fits in
             let k : min widest 65535 < w = rw (← em) over in
             e ∙ simp (both, height-is, width-is, le-ltb (min highest 65535) h i, lt-ltb (min widest 65535) w k)
 
-        pub sizes-read : w ≤ m → done (head said w h taken) ≡ sizesAnswer said height width taken widest highest
+        pub sizes-read : w ≤ m → done (head said lies w h taken) ≡ sizesAnswer said lies height width taken widest highest
         unfolding sizesAnswer
         sizes-read under =
             let i : h ≤ min highest 65535 = rw (← el) fits in
             let k : w ≤ min widest 65535 = rw (← em) under in
             simp (both, height-is, width-is, le-ltb (min highest 65535) h i, le-ltb (min widest 65535) w k)
+
+-- ---- Axes
+
+pub crate-lies : (reading : Reading) (o : Orientation) → reading ≡ Crate → upright ≡ liesBy reading o
+crate-lies reading o k = rw k
+
+pub document-lies : (reading : Reading) (o : Orientation) → reading ≡ Document → o ≡ liesBy reading o
+document-lies reading o k = rw k
+
+module _ (reading : Reading) (said : Said) (o : Orientation) (second fourth : List ℕ) (taken widest highest : ℕ) (t : Bool) (is : t ≡ takes reading o) (r : Answer Head) where
+  pub named-other : t ≡ false → r ≡ refuse 2 → r ≡ namedAnswer reading said o second fourth taken widest highest
+  unfolding namedAnswer
+  named-other k e = e ∙ simp (← is, k)
+
+  module _ (k : t ≡ true) (lies : Orientation) (il : lies ≡ liesBy reading o) where
+    pub named-columns : o .columns ≡ true → r ≡ sizesAnswer said lies fourth second taken widest highest → r ≡ namedAnswer reading said o second fourth taken widest highest
+    unfolding namedAnswer
+    named-columns c e = e ∙ simp (← is, k, ← il, c)
+
+    pub named-rows : o .columns ≡ false → r ≡ sizesAnswer said lies second fourth taken widest highest → r ≡ namedAnswer reading said o second fourth taken widest highest
+    unfolding namedAnswer
+    named-rows c e = e ∙ simp (← is, k, ← il, c)
 
 -- ---- The four fields, where a, b, c and d are the places after them
 
@@ -102,20 +127,21 @@ module _ (bytes : List ℕ) (at a b c d : ℕ) (ea : a ≡ past space bytes at) 
   unfolding fieldsAt fields
   fields-are = simp (← ea, ← eb, ← ec, ← ed, ← e1, ← e2, ← e3, ← e4)
 
-  module _ (said : Said) (widest highest : ℕ) (axes : Axes) (is : axes ≡ axesOf first third) (r : Answer Head) where
-    answer-by : fieldsAnswer said (fieldsAt bytes at) widest highest ≡ pick (isOther axes) (refuse 2) (sizesAnswer said (heightField axes fields) (widthField axes fields) d widest highest)
+  module _ (reading : Reading) (said : Said) (widest highest : ℕ) (axes : Axes) (is : axes ≡ axesOf first third) (r : Answer Head) where
+    answer-by : fieldsAnswer reading said (fieldsAt bytes at) widest highest
+        ≡ pick (isOther reading axes) (refuse 2) (sizesAnswer said (orientationOf reading axes) (heightField axes fields) (widthField axes fields) d widest highest)
     unfolding fieldsAnswer headOf sizesAnswer fields
     answer-by = rw fields-are (simp (← is))
 
-    pub fields-height : axes ≡ HeightFirst → r ≡ sizesAnswer said second fourth d widest highest → r ≡ fieldsAnswer said (fieldsAt bytes at) widest highest
-    unfolding fields
-    fields-height k e = e ∙ sym (answer-by ∙ simp k)
+    pub fields-named : (o : Orientation) → axes ≡ Named o → r ≡ namedAnswer reading said o second fourth d widest highest → r ≡ fieldsAnswer reading said (fieldsAt bytes at) widest highest
+    unfolding fields namedAnswer
+    fields-named o k e = e ∙ sym (answer-by ∙ rw k (either (takes reading o) _ _))
+      where
+        either : (t : Bool) (x y : Answer Head) → pick (not t) x y ≡ pick t y x
+        either true x y = refl
+        either false x y = refl
 
-    pub fields-width : axes ≡ WidthFirst → r ≡ sizesAnswer said fourth second d widest highest → r ≡ fieldsAnswer said (fieldsAt bytes at) widest highest
-    unfolding fields
-    fields-width k e = e ∙ sym (answer-by ∙ simp k)
-
-    pub fields-other : axes ≡ Other → r ≡ refuse 2 → r ≡ fieldsAnswer said (fieldsAt bytes at) widest highest
+    pub fields-other : axes ≡ Other → r ≡ refuse 2 → r ≡ fieldsAnswer reading said (fieldsAt bytes at) widest highest
     fields-other k e = e ∙ sym (answer-by ∙ simp k)
 
 -- ---- The whole header
@@ -137,7 +163,7 @@ module _ (reading : Reading) (bytes : List ℕ) (widest highest at : ℕ) (ea : 
     unfolding headerOf headChecks
     header-fault number l e = e ∙ simp (first-is, k, said-is, l)
 
-    pub header-right : (said : Said) (end : ℕ) → s ≡ answer.Heard said → end ≡ linesEnd bytes at → r ≡ fieldsAnswer said (fieldsAt bytes end) widest highest
+    pub header-right : (said : Said) (end : ℕ) → s ≡ answer.Heard said → end ≡ linesEnd bytes at → r ≡ fieldsAnswer reading said (fieldsAt bytes end) widest highest
         → r ≡ headerOf reading bytes widest highest
     unfolding headerOf headChecks fieldsAnswer fieldsOf
     header-right said end l m e = e ∙ rw (m, ea) (simp (first-is, k, said-is, l))
@@ -172,10 +198,19 @@ module _ (reading : Reading) (bytes : List ℕ) (widest highest : ℕ) (head : H
       let f = fieldsOf bytes in
       let axes = axesOf (f .first) (f .third) in
       let both = header-passed in
-      let sizes = passed-lines (saidIn reading bytes) (fieldChecks axes f widest highest) (both .0 .1) in
+      let sizes = passed-lines (saidIn reading bytes) (fieldChecks reading axes f widest highest) (both .0 .1) in
       let high : sizeOf (heightField axes f) ≤ min highest 65535 = ltb-false _ _ (sizes .1 .1 .0) in
       let wide : sizeOf (widthField axes f) ≤ min widest 65535 = ltb-false _ _ (sizes .1 .1 .1 .0) in
       (subst (λ (x : Head). x .width ≤ 65535) (both .1) (omega arith), subst (λ (x : Head). x .height ≤ 65535) (both .1) (omega arith))
+
+  -- by the crate reading its rows lie upright
+  pub header-upright : reading ≡ Crate → head .orientation ≡ upright
+  unfolding headOf
+  header-upright k = sym (ap (λ (x : Head). x .orientation) (header-passed .1)) ∙ rw k (lies-upright (axesOf (fieldsOf bytes .first) (fieldsOf bytes .third)))
+    where
+      lies-upright : (axes : Axes) → orientationOf Crate axes ≡ upright
+      lies-upright (Named o) = refl
+      lies-upright Other = refl
 
   -- the exposure that it states is above zero
   pub header-above : Above (head .exposure)

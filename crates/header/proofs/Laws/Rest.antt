@@ -11,7 +11,8 @@ use Rattle.steps.specs.Answer.{Answer, done, refused, refuse, Check, check, che
 use Rattle.steps.specs.declared.Reading.{Reading}
 use Rattle.steps.proofs.Laws.Answer.{differ}
 use Rattle.words.specs.Lines.{lineFeed, past, firstLine, isFirst, linesEnd}
-use Rattle.words.specs.Fields.{Fields, fieldsAt, axesOf}
+use Rattle.words.specs.Fields.{Fields, fieldsAt}
+use Rattle.words.specs.Axes.{axesOf}
 use Rattle.words.proofs.Laws.Lines.{past-from}
 use Rattle.words.proofs.Laws.Rest.{Inside, spaces, past-rest, first-rest, wrong-rest, lines-from, lines-rest, spaces-from, spaces-rest, fields-rest}
 use Rattle.stated.specs.declared.Said.{Said}
@@ -44,7 +45,7 @@ by-parts reading bytes bytes′ widest highest line said fields =
     ∙ ap (answer (firstLine bytes′) (saidIn reading bytes′)) fields
   where
     answer : List ℕ → Answer Said → Fields → Answer Head
-    answer l s f = checked refuse (check 1 (not (isFirst l)) ∷ faultOf s ∷ fieldChecks (axesOf (f .first) (f .third)) f widest highest) (done (headOf (heardIn s) f))
+    answer l s f = checked refuse (check 1 (not (isFirst l)) ∷ faultOf s ∷ fieldChecks reading (axesOf (f .first) (f .third)) f widest highest) (done (headOf reading (heardIn s) f))
 
 module _ (xs ys zs : List ℕ) where
   line-inside : Inside (fieldsStart (xs ++ ys)) xs ys → Inside (past lineFeed (xs ++ ys) 0) xs ys
@@ -103,7 +104,7 @@ pub wrong-line : (reading : Reading) (xs zs : List ℕ) (widest highest place : 
 unfolding headerOf headChecks saidIn
 wrong-line reading xs zs widest highest place h e =
     let f = fieldsOf xs in
-    let checks = fieldChecks (axesOf (f .first) (f .third)) f widest highest in
+    let checks = fieldChecks reading (axesOf (f .first) (f .third)) f widest highest in
     let others = no-first (saidIn reading xs) checks (said-number reading xs (past lineFeed xs 0)) (λ z. omega arith, (λ z. omega arith, (λ z. omega arith, (λ z. omega arith, tt)))) in
     let wrong = by-first 1 place (headIn reading xs) (isFirst (firstLine xs)) (faultOf (saidIn reading xs) ∷ checks) others e in
     simp (wrong-rest xs zs h (wrong .1), wrong .0)

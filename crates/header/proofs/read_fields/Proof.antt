@@ -1,7 +1,6 @@
--- `header::read_fields` meets its contract: the axes are judged, and then the sizes.
+-- `header::read_fields` meets its contract: the axes that are named, and then the sizes.
 use borrow.Author.Needs.{needs}
-use Rattle.header.proofs.Laws.Head.{fields-height, fields-width, fields-other}
-use borrow.Author.Needs.{needs}
+use Rattle.header.proofs.Laws.Head.{fields-named, fields-other}
 use Rattle.header.proofs.read_fields.Statement.{statement}
 use Rattle.header.proofs.read_fields.Tie as tie
 
@@ -68,32 +67,23 @@ trim-requires-4 c κs = search needs
 axes-of-requires : tie.Need-axes-of-requires
 axes-of-requires c κs = search needs
 
+enum-known-pair : tie.Need-enum-known-pair
+enum-known-pair c = search needs
+
+read-named-requires : tie.Need-read-named-requires
+read-named-requires c κs = search needs
+
 enum-told : tie.Need-enum-told
 enum-told c = search needs
-
-read-sizes-requires : tie.Need-read-sizes-requires
-read-sizes-requires c κs = search needs
-
-enum-told-2 : tie.Need-enum-told-2
-enum-told-2 c = search needs
-
-read-sizes-requires-2 : tie.Need-read-sizes-requires-2
-read-sizes-requires-2 c κs = search needs
-
-enum-told-3 : tie.Need-enum-told-3
-enum-told-3 c = search needs
 
 refused-requires : tie.Need-refused-requires
 refused-requires c κs = search needs
 
 returns : tie.Need-returns
-returns c = search fields-height
+returns c = fields-named _ _ _ _ _ _ (c .before .before .before .before .before .before .before .before .before .before .before .before .before .before .before .before .past .ensures .0) (c .before .before .before .before .before .before .before .before .before .before .before .before .before .before .before .past2 .ensures .0) (c .before .before .before .before .before .before .before .before .before .before .before .before .before .before .past3 .ensures .0) (c .before .before .before .before .before .before .before .before .before .before .before .before .before .past4 .ensures .0) _ _ _ _ (c .before .before .before .before .before .before .before .trim3 .ensures) (c .before .before .before .before .before .before .before .before .before .before .before .trim .ensures) (c .before .before .before .before .before .trim4 .ensures) (c .before .before .before .before .before .before .before .before .before .trim2 .ensures) _ _ _ _ _ (c .before .before .before .before .axes-of .ensures) _ _ (c .before .before .pair .given .1) (c .read-named .ensures)
 
 returns-2 : tie.Need-returns-2
-returns-2 c = search fields-width
-
-returns-3 : tie.Need-returns-3
-returns-3 c = search fields-other
+returns-2 c = search fields-other
 
 pub read-fields-spec : {M : Type 1} → statement M
 read-fields-spec =
@@ -120,12 +110,9 @@ read-fields-spec =
     part-trim-end-4
     trim-requires-4
     axes-of-requires
+    enum-known-pair
+    read-named-requires
     enum-told
-    read-sizes-requires
-    enum-told-2
-    read-sizes-requires-2
-    enum-told-3
     refused-requires
     returns
-    returns-2
-    returns-3)
+    returns-2)
