@@ -10,30 +10,16 @@ use Rattle.steps.specs.Place.{spread}
 use Rattle.steps.specs.Answer.{Answer, done, refused, Check, check}
 use Rattle.steps.specs.declared.Taken.{Taken}
 use Rattle.steps.specs.declared.Taken.the-variants.{Done, Fault}
+use Rattle.places.specs.Places.{Stored, storedBy}
 use Rattle.header.specs.declared.Head.{Head}
 use Rattle.rows_read.specs.Row.{RowRule}
 use Rattle.reader.specs.Samples.{SampleRule, placed}
 
--- ---- Stored rows
-
--- the rows as the file stores them
-pub record Stored : Type 0 where
-  -- how many pixels a stored row has
-  pub long : ℕ
-  -- how many stored rows there are
-  pub count : ℕ
-  -- the place in the frame, pixel by pixel, of column i of stored row k
-  pub place : ℕ → ℕ → ℕ
-
--- a row that lies in the frame as it is stored, from the place `first` on
-abbrev pub along : ℕ → ℕ → ℕ
-along first i = first + i
-
--- "-Y h +X w and +X w -Y h both give rows of w"
+-- the rows as a file stores them, whose header says this
 abbrev pub storedOf : Head → Stored
-storedOf head = record { long = head .width; count = head .height; place = λ k. along (k * head .width) }
+storedOf head = storedBy (head .orientation) (head .width) (head .height)
 
--- "the first 4w bytes of the row store are set to 0, once", for rows of w
+-- "the first 4w bytes of the row store are set to 0, once", for stored rows of w
 abbrev pub cleared : ℕ → List ℕ → List ℕ
 cleared long store = spread 1 store 0 (replicate (4 * long) 0)
 

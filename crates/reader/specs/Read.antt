@@ -21,7 +21,7 @@ use Rattle.reader.specs.declared.ReadAnswer.the-variants as read
 
 -- ---- By any rule for a row and for a pixel
 
--- the checks 6 to 8, of the sizes that the header says; "row store shorter than 4w bytes" for rows of w
+-- the checks 6 to 8, of the sizes that the header says; "row store shorter than 4w bytes" for stored rows of w
 abbrev pub frameChecks : Head → List Float → List ℕ → List Check
 frameChecks head out store =
     check 6 (ltb (length out) (head .height * (3 * head .width)))

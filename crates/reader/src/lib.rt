@@ -3,6 +3,7 @@ mod samples;
 
 use header::Head;
 use header::HeadAnswer;
+use places::Line;
 use steps::Reading;
 use steps::Taken;
 use steps::amount;
@@ -10,13 +11,14 @@ use steps::amount::Amount;
 use steps::refusal;
 use steps::refusal::Refusal;
 ghost use mathlib.Core.Path.{_≡_};
-ghost use Prim.Native.Nat.{_+_, _*_, _≤_};
+ghost use Prim.Native.Nat.{_*_, _≤_};
 ghost use lib.ListN.{length};
 ghost use Rattle.steps.specs.Answer.{refuse};
 ghost use Rattle.rows_read.specs.Row.{rowOf};
-ghost use Rattle.reader.specs.Frame.{along, storedOf, stepOf, rowsOf};
+ghost use Rattle.places.specs.Inner.{lineAt};
+ghost use Rattle.reader.specs.Frame.{storedOf, stepOf, rowsOf};
 ghost use Rattle.reader.specs.Read.{outputSize, pixelBy, paperOf, framed, ReadPromise};
-ghost use Rattle.reader.specs.Inner.{frameAnswer};
+ghost use Rattle.reader.specs.Inner.{Room, frameAnswer};
 
 // What reading a file answers: what its header says and the count of bytes taken, or a refusal.
 pub enum ReadAnswer {
@@ -24,30 +26,30 @@ pub enum ReadAnswer {
     Refused(Refusal),
 }
 
-// One row from a place of the input on, by way of the row store; its pixels lie in the frame from the place `first` on.
+// One stored row from a place of the input on, by way of the row store; its pixels lie in the frame along a line.
 pub fn step(
     reading: Reading,
     bytes: &[u8],
     at: usize,
-    width: usize,
-    first: usize,
+    long: usize,
+    line: Line,
     out: &mut [f32],
     store: &mut [u8],
 ) -> Taken
-    requires { ⌜ (4 * width ≤ length (now store)) × (3 * (first + width) ≤ length (now out)) × (width ≤ 65535) ⌝ }
-    ensures { λ r. ⌜ (r, now (out .exit), now (store .exit)) ≡ stepOf (rowOf reading) (pixelBy reading) width (along first) (now (bytes .entry)) at (now (out .entry)) (now (store .entry)) ⌝ }
+    requires { ⌜ (4 * long ≤ length (now store)) × (long ≤ 65535) × Room line long (length (now out)) ⌝ }
+    ensures { λ r. ⌜ (r, now (out .exit), now (store .exit)) ≡ stepOf (rowOf reading) (pixelBy reading) long (lineAt line) (now (bytes .entry)) at (now (out .entry)) (now (store .entry)) ⌝ }
 {
-    let t = rows_read::read_row(reading, bytes, at, store, width);
+    let t = rows_read::read_row(reading, bytes, at, store, long);
     match t {
         Taken::Done { next } => {
-            samples::put_samples(reading, store, out, 3 * first, width);
+            samples::put_row(reading, store, out, line, long);
             Taken::Done { next }
         }
         Taken::Fault { number } => Taken::Fault { number },
     }
 }
 
-// The rows from head.taken on, each to its place in the output.
+// The stored rows from head.taken on, each to its places in the output.
 fn read_rows(
     reading: Reading,
     bytes: &[u8],
@@ -55,16 +57,19 @@ fn read_rows(
     out: &mut [f32],
     store: &mut [u8],
 ) -> ReadAnswer
-    requires { ⌜ (4 * head .width ≤ length (now store)) × (head .height * (3 * head .width) ≤ length (now out)) × (head .width ≤ 65535) ⌝ }
+    requires { ⌜ (4 * storedOf head .long ≤ length (now store)) × (head .height * (3 * head .width) ≤ length (now out)) × (head .width ≤ 65535) × (head .height ≤ 65535) ⌝ }
     ensures { λ r. ⌜ (paperOf r, now (out .exit), now (store .exit)) ≡ framed head (rowsOf (rowOf reading) (pixelBy reading) (now (bytes .entry)) (storedOf head) (head .taken) (now (out .entry)) (now (store .entry))) ⌝ }
 {
+    let lies = head.orientation;
     let width = head.width;
     let height = head.height;
+    let long = places::long(lies, width, height);
+    let count = places::count(lies, width, height);
     let mut p = head.taken;
-    let mut first = 0;
     let mut k = 0;
-    while k < height {
-        let t = step(reading, bytes, p, width, first, out, store);
+    while k < count {
+        let line = places::line_of(lies, width, height, k);
+        let t = step(reading, bytes, p, long, line, out, store);
         match t {
             Taken::Done { next } => {
                 p = next;
@@ -73,7 +78,6 @@ fn read_rows(
                 return ReadAnswer::Refused(Refusal { number, place: k });
             }
         }
-        first += width;
         k += 1;
     }
     ReadAnswer::Done(head.taking(p))
@@ -97,6 +101,7 @@ fn read_frame(
     requires { ⌜ (head .width ≤ 65535) × (head .height ≤ 65535) ⌝ }
     ensures { λ r. ⌜ (paperOf r, now (out .exit), now (store .exit)) ≡ frameAnswer (rowOf reading) (pixelBy reading) (now (bytes .entry)) head (now (out .entry)) (now (store .entry)) ⌝ }
 {
+    let lies = head.orientation;
     let width = head.width;
     let height = head.height;
     if out.len() < height * (3 * width) {
@@ -105,10 +110,11 @@ fn read_frame(
     if width == 0 {
         return refused(refusal::NO_WIDTH);
     }
-    if store.len() < 4 * width {
+    let long = places::long(lies, width, height);
+    if store.len() < 4 * long {
         return refused(refusal::SHORT_STORE);
     }
-    steps::clear(store, 4 * width);
+    steps::clear(store, 4 * long);
     read_rows(reading, bytes, head, out, store)
 }
 

@@ -1,39 +1,50 @@
 -- The laws that proofs use of `specs/Frame.antt`, over any rules.
 use Prim.{Unit}
-use Prim.Native.Nat.{ℕ, suc, _+_, _-_, _*_, _<_, _≤_}
+use Prim.Native.Nat.{ℕ, _+_, _-_, _*_, _^_, _<_, _≤_}
+use mathlib.Core.Bool.{Bool}
 use mathlib.Core.List.{List}
 use mathlib.Core.Path.{_≡_, refl, sym, ap, subst, _∙_}
-use native.Mathlib.Nat.{mul-le-mul, mul-le-mul-left, mul-le-mul-right, mul-left-comm, suc-mul}
-use native.Mathlib.Numerals.{add-one}
+use native.Mathlib.Nat.{mul-le-mul, mul-le-mul-left, mul-left-comm}
 use native.Mathlib.Omega.{arith}
 use borrow.Author.Tests.{lt-ltb, le-ltb, ltb-true, ltb-false}
 use lib.Dec.{ltb}
 use lib.Ieee.{Float}
-use Rattle.steps.specs.Loop.{run, Turn, more, halt}
-use Rattle.steps.specs.Place.{spread}
+use Rattle.steps.specs.Loop.{pick, run, Turn, more, halt}
 use Rattle.steps.specs.Answer.{Answer, done, refused}
 use Rattle.steps.proofs.Laws.Taken.{never-both}
 use Rattle.steps.specs.declared.Taken.{Taken}
 use Rattle.steps.specs.declared.Taken.the-variants.{Done, Fault}
 use Rattle.steps.proofs.Laws.Loop.{Runs, runs-start, runs-more, runs-halt}
 use Rattle.steps.proofs.Laws.Turns.{by-test, Leads, run-keeps, Falls, never-out}
+use Rattle.words.specs.declared.axes.Orientation.{Orientation}
+use Rattle.places.specs.declared.Line.{Line}
+use Rattle.places.specs.Places.{Stored, longOf, countOf, placeOf}
+use Rattle.places.specs.Inner.{lineAt, lineOf}
+use Rattle.places.proofs.Laws.Places.{either-small, line-place}
+use Rattle.places.proofs.Laws.Eight.{rearranged}
 use Rattle.rows_read.specs.Row.{RowRule}
 use Rattle.reader.specs.Samples.{SampleRule, placed}
-use Rattle.reader.specs.Frame.{Stored, along, stepped, stepOf, Rows, rows, Left, afterStep, rowTurn, noRows, rowsOf}
-use Rattle.reader.specs.Inner.{samplesFrom}
-use Rattle.reader.proofs.Laws.Samples.{placed-along}
+use Rattle.reader.specs.Frame.{stepped, stepOf, Rows, rows, Left, afterStep, rowTurn, noRows, rowsOf}
+use Rattle.reader.proofs.Laws.Samples.{placed-same}
 
 -- ---- Places
 
--- a row's samples lie within those of all rows
-pub row-room : (row height width first m n : ℕ) → row < height → first ≡ row * width → height * (3 * width) ≤ m → n ≡ m → 3 * (first + width) ≤ n
-row-room row height width first m n h e room same =
-    let fits : row * width + width ≤ height * width = rw suc-mul at (mul-le-mul-right {m = suc row} width h) in
-    let all : 3 * (first + width) ≤ height * (3 * width) = rw mul-left-comm (mul-le-mul-left 3 (rw e fits)) in
-    omega (arith, all)
+-- a stored row's samples lie within those of all rows
+pub line-room : (o : Orientation) (width height k m n : ℕ) (line : Line) (count long : ℕ) → line ≡ lineOf o width height k → count ≡ countOf o width height → k < count → width ≤ 65535 → height ≤ 65535 → height * (3 * width) ≤ m → n ≡ m → long ≡ longOf o width height
+    → (i : ℕ) → i < long → (lineAt line i ≤ 4294901760) × (3 * lineAt line i + 3 ≤ n)
+line-room o width height k m n line count long e ec h wide high room same el i l =
+    let within : i < longOf o width height = rw el at l in
+    let before-last : k < countOf o width height = rw ec at h in
+    let here : lineAt line i ≡ placeOf o width height k i = ap (λ (x : Line). lineAt x i) e ∙ line-place o width height k i within in
+    let under : placeOf o width height k i < height * width = rearranged o width height .inside k i before-last within in
+    let all : 3 * (height * width) ≤ m = rw mul-left-comm at room in
+    (omega (arith, here, under, mul-le-mul high wide), omega (arith, here, under, all))
 
-pub row-next : (row n o : ℕ) → o ≡ row * n → o + n ≡ (row + 1) * n
-row-next row n o e = rw (e, add-one, suc-mul)
+pub four-fit : (columns : Bool) (width height n : ℕ) → n ≡ pick columns height width → width ≤ 65535 → height ≤ 65535 → 4 * n < 2 ^ 64
+four-fit columns width height n e h k = omega (arith, either-small columns n height width e k h)
+
+pub count-most : (columns : Bool) (width height n k : ℕ) → n ≡ pick columns width height → width ≤ 65535 → height ≤ 65535 → k < n → k ≤ 65535
+count-most columns width height n k e h l m = omega (arith, m, either-small columns n width height e h l)
 
 -- within the limits nothing wraps
 pub area-fits : (width height : ℕ) → width ≤ 65535 → height ≤ 65535 → height * (3 * width) ≤ 65535 * (3 * 65535)
@@ -41,20 +52,17 @@ area-fits width height h k = mul-le-mul k (mul-le-mul-left 3 h)
 
 -- ---- One step
 
-module _ (rowRule : RowRule) (rule : SampleRule) (width first : ℕ) (bytes : List ℕ) (at : ℕ) (out : List Float) (store : List ℕ)
-    (t : Taken) (store′ : List ℕ) (e : (t, store′) ≡ rowRule bytes at store width) where
-  stepped-by : (place : ℕ → ℕ) → stepped rule width place out t store′ ≡ stepOf rowRule rule width place bytes at out store
+module _ (rowRule : RowRule) (rule : SampleRule) (long : ℕ) (place : ℕ → ℕ) (bytes : List ℕ) (at : ℕ) (out : List Float) (store : List ℕ)
+    (t : Taken) (store′ : List ℕ) (e : (t, store′) ≡ rowRule bytes at store long) where
+  stepped-by : stepped rule long place out t store′ ≡ stepOf rowRule rule long place bytes at out store
   unfolding stepOf
-  stepped-by place = ap (λ (z : Taken × List ℕ). stepped rule width place out (z .0) (z .1)) e
+  stepped-by = ap (λ (z : Taken × List ℕ). stepped rule long place out (z .0) (z .1)) e
 
-  pub step-fault : (number : ℕ) → t ≡ Fault number → (Fault number, out, store′) ≡ stepOf rowRule rule width (along first) bytes at out store
-  step-fault number k = rw k at (stepped-by (along first))
+  pub step-fault : (number : ℕ) → t ≡ Fault number → (Fault number, out, store′) ≡ stepOf rowRule rule long place bytes at out store
+  step-fault number k = rw k at stepped-by
 
-  -- a row that lies as it is stored goes to the output in one piece
-  pub step-done : (next o : ℕ) (out′ : List Float) → t ≡ Done next → o ≡ 3 * first → out′ ≡ spread 1 out o (samplesFrom rule store′ 0 width)
-      → (Done next, out′, store′) ≡ stepOf rowRule rule width (along first) bytes at out store
-  step-done next o out′ k eo es =
-      ap (λ (l : List Float). (Done next, l, store′)) (es ∙ rw eo (sym (placed-along rule first store′ out width))) ∙ (rw k at (stepped-by (along first)))
+  pub step-done : (next : ℕ) (out′ : List Float) → t ≡ Done next → out′ ≡ placed rule place store′ 0 long out → (Done next, out′, store′) ≡ stepOf rowRule rule long place bytes at out store
+  step-done next out′ k es = ap (λ (l : List Float). (Done next, l, store′)) es ∙ (rw k at stepped-by)
 
 -- ---- What a step did, from its answer
 
@@ -88,6 +96,16 @@ module _ (rowRule : RowRule) (rule : SampleRule) (long : ℕ) (place : ℕ → �
       by-taken : (t : Taken) (s′ : List ℕ) → (Done next, o, s) ≡ stepped rule long place out t s′ → (_≡_ {A = OfRow} (Done next, s) (t, s′)) × (o ≡ placed rule place s 0 long out)
       by-taken (Done m) s′ e = (ap row-of e, ap (λ (z : Answered). z .1) e ∙ ap (λ (l : List ℕ). placed rule place l 0 long out) (sym (ap (λ (z : Answered). z .2) e)))
       by-taken (Fault m) s′ e = never-both next m (ap (λ (z : Answered). z .0) e)
+
+-- places that agree on the row's pixels give the same step
+pub step-same : (rowRule : RowRule) (rule : SampleRule) (long : ℕ) (p q : ℕ → ℕ) (bytes : List ℕ) (at : ℕ) (out : List Float) (store : List ℕ) → ((i : ℕ) → i < long → p i ≡ q i)
+    → stepOf rowRule rule long p bytes at out store ≡ stepOf rowRule rule long q bytes at out store
+unfolding stepOf
+step-same rowRule rule long p q bytes at out store h = by-taken (rowRule bytes at store long .0) (rowRule bytes at store long .1)
+  where
+    by-taken : (t : Taken) (s : List ℕ) → stepped rule long p out t s ≡ stepped rule long q out t s
+    by-taken (Done next) s = ap (λ (l : List Float). (Done next, l, s)) (placed-same rule p q s 0 long out (λ c l m. h c (omega arith)))
+    by-taken (Fault number) s = refl
 
 -- ---- Rows
 

@@ -18,38 +18,53 @@ use Rattle.header.specs.declared.HeadAnswer.{HeadAnswer}
 use Rattle.header.specs.declared.HeadAnswer.the-variants.{Read, Refused}
 use Rattle.header.proofs.Laws.Head.{header-limits}
 use Rattle.steps.specs.declared.Reading.{Reading}
+use Rattle.places.specs.declared.Line.{Line}
+use Rattle.words.specs.declared.axes.Orientation.{Orientation}
+use Rattle.places.specs.Places.{Stored, longOf, countOf, placeOf, storedBy}
+use Rattle.places.specs.Inner.{lineAt, lineOf}
+use Rattle.places.proofs.Laws.Places.{line-place}
 use Rattle.rows_read.specs.Row.{RowRule, rowOf, RowFault}
 use Rattle.rows_read.proofs.Laws.Faults.{reading-faults}
 use Rattle.steps.specs.declared.Taken.{Taken}
 use Rattle.steps.specs.declared.Taken.the-variants.{Done, Fault}
 use Rattle.reader.specs.Samples.{SampleRule}
-use Rattle.reader.specs.Frame.{Stored, along, storedOf, cleared, stepOf, Left, rows, rowTurn, noRows, rowsOf}
+use Rattle.reader.specs.Frame.{storedOf, cleared, stepOf, Left, rows, rowTurn, noRows, rowsOf}
 use Rattle.reader.specs.Read.{pixelBy, framed, readBy, paperOf, ReadPromiseBy, ReadPromise}
 use Rattle.reader.specs.Inner.{frameAnswer}
 use Rattle.reader.specs.declared.ReadAnswer.{ReadAnswer}
 use Rattle.reader.specs.declared.ReadAnswer.the-variants as read
-use Rattle.reader.proofs.Laws.Frame.{rows-done, rows-fault, rows-again, rows-faults}
+use Rattle.reader.proofs.Laws.Frame.{step-same, rows-done, rows-fault, rows-again, rows-faults}
 use Rattle.steps.proofs.Laws.Amount.{amount-is, amount-passes}
 use Rattle.steps.specs.declared.amount.Amount.{Amount}
 use Rattle.steps.specs.declared.amount.Amount.the-variants.{Number, None}
 
 -- ---- The rows of a file whose header says `head`
 
-module _ (rowRule : RowRule) (rule : SampleRule) (bytes : List ℕ) (head : Head) (p row : ℕ) (store : List ℕ) (out : List Float) (a : Left)
-    (r : Runs (rowTurn rowRule rule bytes (storedOf head)) noRows (head .height - row) (rows p row store out) a) where
-  pub frame-done : (x : Head) → head .height ≤ row → x ≡ taking head p → (done x, out, store) ≡ framed head a
-  frame-done x h e = rw e (ap (framed head) (rows-done rowRule rule bytes (storedOf head) p row store out a r h))
+-- one stored row more
+module _ (rowRule : RowRule) (rule : SampleRule) (bytes : List ℕ) (o : Orientation) (width height p row : ℕ) (store : List ℕ) (out : List Float) (a : Left)
+    (r : Runs (rowTurn rowRule rule bytes (storedBy o width height)) noRows (countOf o width height - row) (rows p row store out) a) (count : ℕ) (many : count ≡ countOf o width height)
+    (line : Line) (lies : line ≡ lineOf o width height row) (h : row < count) (t : Taken) (out′ : List Float) (store′ : List ℕ)
+    (long : ℕ) (wide : long ≡ longOf o width height) (e : (t, out′, store′) ≡ stepOf rowRule rule long (lineAt line) bytes p out store) where
+  there : (t, out′, store′) ≡ stepOf rowRule rule (longOf o width height) (placeOf o width height row) bytes p out store
+  there =
+      e ∙ ap (λ (n : ℕ). stepOf rowRule rule n (lineAt line) bytes p out store) wide
+      ∙ step-same rowRule rule (longOf o width height) (lineAt line) (placeOf o width height row) bytes p out store
+      (λ i l. ap (λ (x : Line). lineAt x i) lies ∙ line-place o width height row i l)
 
-  module _ (first : ℕ) (lies : first ≡ row * head .width) (h : row < head .height) (t : Taken) (out′ : List Float) (store′ : List ℕ)
-      (e : (t, out′, store′) ≡ stepOf rowRule rule (head .width) (along first) bytes p out store) where
-    there : (t, out′, store′) ≡ stepOf rowRule rule (head .width) (along (row * head .width)) bytes p out store
-    there = e ∙ ap (λ (q : ℕ). stepOf rowRule rule (head .width) (along q) bytes p out store) lies
+  before-last : row < countOf o width height
+  before-last = rw many at h
 
-    pub frame-fault : (number : ℕ) → t ≡ Fault number → (refused number row, out′, store′) ≡ framed head a
-    frame-fault number k = ap (framed head) (rows-fault rowRule rule bytes (storedOf head) p row store out a r h t out′ store′ there number k)
+  pub frame-fault : (head : Head) (number : ℕ) → t ≡ Fault number → (refused number row, out′, store′) ≡ framed head a
+  frame-fault head number k = ap (framed head) (rows-fault rowRule rule bytes (storedBy o width height) p row store out a r before-last t out′ store′ there number k)
 
-    pub frame-again : (at : ℕ) → t ≡ Done at → Runs (rowTurn rowRule rule bytes (storedOf head)) noRows (head .height - (row + 1)) (rows at (row + 1) store′ out′) a
-    frame-again at k = rows-again rowRule rule bytes (storedOf head) p row store out a r h t out′ store′ there at k
+  pub frame-again : (at : ℕ) → t ≡ Done at → Runs (rowTurn rowRule rule bytes (storedBy o width height)) noRows (countOf o width height - (row + 1)) (rows at (row + 1) store′ out′) a
+  frame-again at k = rows-again rowRule rule bytes (storedBy o width height) p row store out a r before-last t out′ store′ there at k
+
+-- the last
+pub frame-done : (rowRule : RowRule) (rule : SampleRule) (bytes : List ℕ) (head : Head) (p row : ℕ) (store : List ℕ) (out : List Float) (a : Left)
+    → Runs (rowTurn rowRule rule bytes (storedOf head)) noRows (storedOf head .count - row) (rows p row store out) a → (count : ℕ) → count ≡ storedOf head .count
+    → (x : Head) → count ≤ row → x ≡ taking head p → (done x, out, store) ≡ framed head a
+frame-done rowRule rule bytes head p row store out a r count many x h e = rw e (ap (framed head) (rows-done rowRule rule bytes (storedOf head) p row store out a r (rw many at h)))
 
 -- the numbers by which a reading's rows are refused
 pub rows-number : (reading : Reading) (rule : SampleRule) (bytes : List ℕ) (stored : Stored) (at : ℕ) (out : List Float) (store : List ℕ) (number row : ℕ)
@@ -78,17 +93,19 @@ module _ (rowRule : RowRule) (rule : SampleRule) (bytes : List ℕ) (head : Head
     unfolding frameAnswer
     frame-no-width r h e = rw e (simp (le-ltb (length out) (head .height * (3 * head .width)) h6, eq-eqb (head .width) 0 h))
 
-    module _ (h7 : head .width ≡ 0 → ⊥) where
-      pub frame-short-store : (r : Answer Head) → length store < 4 * head .width → r ≡ refuse 8 → (r, out, store) ≡ frameAnswer rowRule rule bytes head out store
+    module _ (h7 : head .width ≡ 0 → ⊥) (long : ℕ) (wide : long ≡ storedOf head .long) where
+      pub frame-short-store : (r : Answer Head) → length store < 4 * long → r ≡ refuse 8 → (r, out, store) ≡ frameAnswer rowRule rule bytes head out store
       unfolding frameAnswer
       frame-short-store r h e =
-          rw e (simp (le-ltb (length out) (head .height * (3 * head .width)) h6, ne-eqb (head .width) 0 h7, lt-ltb (length store) (4 * head .width) h))
+          let short : length store < 4 * storedOf head .long = rw wide at h in
+          rw e (simp (le-ltb (length out) (head .height * (3 * head .width)) h6, ne-eqb (head .width) 0 h7, lt-ltb (length store) (4 * storedOf head .long) short))
 
-      pub frame-rows : (store′ : List ℕ) (a : Answer Head × List Float × List ℕ) → 4 * head .width ≤ length store → store′ ≡ cleared (head .width) store
+      pub frame-rows : (store′ : List ℕ) (a : Answer Head × List Float × List ℕ) → 4 * long ≤ length store → store′ ≡ cleared long store
           → a ≡ framed head (rowsOf rowRule rule bytes (storedOf head) (head .taken) out store′) → a ≡ frameAnswer rowRule rule bytes head out store
       unfolding frameAnswer
       frame-rows store′ a h es e =
-          e ∙ rw es (simp (le-ltb (length out) (head .height * (3 * head .width)) h6, ne-eqb (head .width) 0 h7, le-ltb (length store) (4 * head .width) h))
+          let room : 4 * storedOf head .long ≤ length store = rw wide at h in
+          e ∙ rw (es, wide) (simp (le-ltb (length out) (head .height * (3 * head .width)) h6, ne-eqb (head .width) 0 h7, le-ltb (length store) (4 * storedOf head .long) room))
 
 -- ---- The whole file
 

@@ -1,7 +1,7 @@
 -- `reader::read_frame` meets its contract: each `return` is one of the checks 6 to 8, or the rows.
 use borrow.Author.Needs.{needs}
 use native.Mathlib.Omega.{arith}
-use Rattle.reader.proofs.Laws.Frame.{area-fits}
+use Rattle.reader.proofs.Laws.Frame.{area-fits, four-fit}
 use Rattle.reader.proofs.Laws.Read.{frame-short-out, frame-no-width, frame-short-store, frame-rows}
 use Rattle.reader.proofs.read_frame.Statement.{statement}
 use Rattle.reader.proofs.read_frame.Tie as tie
@@ -10,7 +10,7 @@ mul-if1 : tie.Need-mul-if1
 mul-if1 c = search needs
 
 mul-if1-2 : tie.Need-mul-if1-2
-mul-if1-2 c = record { fits = omega (arith, area-fits _ _ (c .before .before .before .pre .0) (c .before .before .before .pre .1)) }
+mul-if1-2 c = record { fits = omega (arith, area-fits _ _ (c .before .before .before .before .pre .0) (c .before .before .before .before .pre .1)) }
 
 refused-requires : tie.Need-refused-requires
 refused-requires c κs = search needs
@@ -24,8 +24,11 @@ refused-requires-2 c κs = search needs
 returns-2 : tie.Need-returns-2
 returns-2 c = search frame-no-width
 
+long-requires : tie.Need-long-requires
+long-requires c κs = search needs
+
 mul-if3 : tie.Need-mul-if3
-mul-if3 c = search needs
+mul-if3 c = record { fits = search (four-fit, c .long .ensures, c .before .before .before .before .before .before .before .pre .0, c .before .before .before .before .before .before .before .pre .1) }
 
 refused-requires-3 : tie.Need-refused-requires-3
 refused-requires-3 c κs = search needs
@@ -61,6 +64,7 @@ read-frame-spec =
     returns
     refused-requires-2
     returns-2
+    long-requires
     mul-if3
     refused-requires-3
     returns-3

@@ -1,4 +1,4 @@
--- `reader::step` meets its contract: a row is read, and where it is not at fault its samples are put in one piece.
+-- `reader::step` meets its contract: a row is read, and where it is not at fault its samples are put in their places.
 use borrow.Author.Needs.{needs}
 use Rattle.reader.proofs.Laws.Frame.{step-done, step-fault}
 use Rattle.reader.proofs.step.Statement.{statement}
@@ -10,11 +10,8 @@ read-row-requires c κs = search needs
 enum-known-t : tie.Need-enum-known-t
 enum-known-t c = search needs
 
-mul-put-samples : tie.Need-mul-put-samples
-mul-put-samples c = search needs
-
-put-samples-requires : tie.Need-put-samples-requires
-put-samples-requires c κs = search needs
+put-row-requires : tie.Need-put-row-requires
+put-row-requires c κs = search needs
 
 enum-known-t-2 : tie.Need-enum-known-t-2
 enum-known-t-2 c = search needs
@@ -40,8 +37,7 @@ step-spec =
     (tie.spec
     read-row-requires
     enum-known-t
-    mul-put-samples
-    put-samples-requires
+    put-row-requires
     enum-known-t-2
     same-length
     same-length-2
