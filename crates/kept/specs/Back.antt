@@ -13,6 +13,7 @@ use Rattle.steps.specs.declared.Reading.the-variants.{Crate}
 use Rattle.pixel.specs.declared.Pixel.{Pixel}
 use Rattle.pixel.specs.Rgbe.{peak, rgbeAt}
 use Rattle.loss.specs.Kept.{Numbers, Between, InRange, Lies, Below, KeptAll, zeros}
+use Rattle.words.specs.Axes.{upright}
 use Rattle.header.specs.declared.Head.{Head}
 use Rattle.header.specs.Head.{head}
 use Rattle.header.specs.Written.{writtenSaid}
@@ -54,7 +55,7 @@ pub record Enough (w h widest highest : ℕ) (out : List Float) (store : List �
 
 -- the reader is done, answers width, height and what a written header says, and takes so many bytes
 abbrev pub doneWith : Reading → ℕ → ℕ → ℕ → Answer Head
-doneWith reading w h taken = done (head (writtenSaid reading) w h taken)
+doneWith reading w h taken = done (head (writtenSaid reading) upright w h taken)
 
 -- beyond its first n samples the output is as lent
 pub record Beyond (n : ℕ) (lent out : List Float) : Type 0 where

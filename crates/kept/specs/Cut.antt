@@ -13,7 +13,8 @@ use Rattle.header.specs.declared.Head.{Head}
 use Rattle.header.specs.Head.{headerOf}
 use Rattle.rows_read.specs.Row.{crateRow, documentRow}
 use Rattle.rows_read.specs.Cut.{Short, CutRow}
-use Rattle.reader.specs.Frame.{Stored, storedOf, cleared, Rows, rows, rowTurn}
+use Rattle.places.specs.Places.{Stored}
+use Rattle.reader.specs.Frame.{storedOf, cleared, Rows, rows, rowTurn}
 use Rattle.reader.specs.Read.{cratePixel, documentPixel, readBy, readOf}
 use Rattle.kept.specs.Lent.{before, RowsRead}
 
@@ -27,14 +28,14 @@ pub record CutFile (bytes : List ℕ) (widest highest : ℕ) (out : List Float) 
   pub header : headerOf Crate bytes widest highest ≡ done head
   pub room : head .height * (3 * head .width) ≤ length out
   pub some : 0 < head .width
-  pub row : 4 * head .width ≤ length store
+  pub row : 4 * storedOf head .long ≤ length store
   -- the rows before the last are read
   pub count : ℕ
   pub last : Rows
-  pub before : AfterRows bytes (storedOf head) count (rows (head .taken) 0 (cleared (head .width) store) out) last
-  pub is-last : last .row + 1 ≡ head .height
+  pub before : AfterRows bytes (storedOf head) count (rows (head .taken) 0 (cleared (storedOf head .long) store) out) last
+  pub is-last : last .row + 1 ≡ storedOf head .count
   -- and the last is cut
-  pub cut : CutRow bytes (last .at) (last .store) (head .width)
+  pub cut : CutRow bytes (last .at) (last .store) (storedOf head .long)
 
 -- No picture rests on a missing byte, but for that cut: of a file that is read, whose header says a height above 0, a byte is missing there,
 -- or whatever is added behind its bytes changes nothing.
@@ -42,21 +43,21 @@ abbrev pub WholeOrCut : Type 0
 WholeOrCut =
     (bytes : List ℕ) (widest highest : ℕ) (out out′ : List Float) (store store′ : List ℕ) (head : Head)
     → readBy Crate crateRow cratePixel bytes widest highest out store ≡ (done head, out′, store′) → 0 < head .height
-    → ((c : CutFile bytes widest highest out store) × Short bytes (c .head .width) (c .cut .end))
+    → ((c : CutFile bytes widest highest out store) × Short bytes (storedOf (c .head) .long) (c .cut .end))
     ⊎ ((rest : List ℕ) → readBy Crate crateRow cratePixel (bytes ++ rest) widest highest out store ≡ (done head, out′, store′))
 
 -- ---- By the document reading every cut is refused
 
--- of a file whose header says `own`, the first m bytes end in row k: it starts among them, and ends behind them
+-- of a file whose header says `own`, the first m bytes end in stored row k: it starts among them, and ends behind them
 pub record CutIn (bytes : List ℕ) (own : Head) (store : List ℕ) (m k : ℕ) : Type 0 where
-  pub row : k < own .height
-  pub from : before documentRow bytes (own .width) (own .taken) (cleared (own .width) store) k .0 ≤ m
-  pub behind : m < before documentRow bytes (own .width) (own .taken) (cleared (own .width) store) (k + 1) .0
+  pub row : k < storedOf own .count
+  pub from : before documentRow bytes (storedOf own .long) (own .taken) (cleared (storedOf own .long) store) k .0 ≤ m
+  pub behind : m < before documentRow bytes (storedOf own .long) (own .taken) (cleared (storedOf own .long) store) (k + 1) .0
 
 -- refusal 9 in row k, with the rows before it in the output as the whole file has them, and the rest of it as lent
 pub record RefusedIn (bytes : List ℕ) (own : Head) (out : List Float) (store : List ℕ) (k : ℕ) (left : Answer Head × List Float × List ℕ) : Type 0 where
   pub number : left .0 ≡ refused 9 k
-  pub rows : RowsRead documentRow documentPixel bytes (storedOf own) (own .taken) (cleared (own .width) store) k out (left .1)
+  pub rows : RowsRead documentRow documentPixel bytes (storedOf own) (own .taken) (cleared (storedOf own .long) store) k out (left .1)
 
 -- A file that is read, of which `head .taken` bytes are taken, and a shorter beginning of it that holds the header: it is refused so, in the row in
 -- which it ends.

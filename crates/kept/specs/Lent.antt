@@ -15,7 +15,8 @@ use Rattle.header.specs.Head.{headChecks, headIn}
 use Rattle.rows_read.specs.Row.{RowRule}
 use Rattle.pixel.specs.Rgbe.{rgbeAt}
 use Rattle.reader.specs.Samples.{SampleRule}
-use Rattle.reader.specs.Frame.{Stored, storedOf, cleared, Left}
+use Rattle.places.specs.Places.{Stored}
+use Rattle.reader.specs.Frame.{storedOf, cleared, Left}
 use Rattle.reader.specs.Read.{frameChecks, framed, readBy}
 use Rattle.kept.specs.Back.{pixel}
 

@@ -2,7 +2,7 @@
 use mathlib.Core.Bool.{true, false}
 use mathlib.Core.List.{List, [], _∷_, _++_}
 use Prim.Native.Nat.{ℕ, zero, suc, _+_, _-_, _^_}
-use lib.Ieee.{nan, inf}
+use lib.Ieee.{Float, nan, inf}
 use lib.ListN.{replicate}
 use Rattle.steps.specs.Answer.{done, refused, refuse}
 use Rattle.steps.specs.declared.Reading.the-variants.{Crate, Document}
@@ -12,8 +12,12 @@ use Rattle.stated.specs.declared.Exposure.the-variants.{Stated}
 use Rattle.stated.specs.Said.{nothing}
 use Rattle.header.specs.Head.{head}
 use Rattle.words.specs.Lines.{rgbeLine, lineFeed, space}
-use Rattle.words.specs.Fields.{minusY, plusX}
+use Rattle.words.specs.Axes.{minusY, plusX, upright, orientation}
 use Rattle.kept.specs.Skies.{Case, shows, reads, writes, rgbe, pixel, whole, part, none}
+
+-- half a step at exponent byte 136
+abbrev half : Float
+half = part 1 1
 
 -- ---- Files
 
@@ -61,12 +65,12 @@ shown =
     -- DIFFERENCES 3: the bytes end after the last count, which asks for a run of 8 exponents: all of them are 0
     reads Crate (file [] (rows (digit 1) (digit 8)) ++ (threeChannels ++ (136 ∷ [])))
     (replicate 24 (whole 1 1)) (replicate 32 7)
-    (done (head nothing 8 1 29))
+    (done (head nothing upright 8 1 29))
     (replicate 24 none) (unlit 8)
     -- the bytes end after two of 8 literal exponents: six of them are 0
     ∷ reads Crate (file [] (rows (digit 1) (digit 8)) ++ (threeChannels ++ (8 ∷ 129 ∷ 129 ∷ [])))
     (replicate 24 (whole 1 1)) (replicate 32 7)
-    (done (head nothing 8 1 31))
+    (done (head nothing upright 8 1 31))
     (whole 1 0 ∷ part 1 1 ∷ part 1 2 ∷ whole 1 0 ∷ part 1 1 ∷ part 1 2 ∷ replicate 18 none) (lit 129 ++ (lit 129 ++ unlit 6))
     -- by the document reading both are refused by 9, and what was read stands in the row store
     ∷ reads Document (file [] (rows (digit 1) (digit 8)) ++ (threeChannels ++ (136 ∷ []))) (replicate 24 (whole 1 1)) (replicate 32 7) (refused 9 0) (replicate 24 (whole 1 1)) (unlit 8)
@@ -81,8 +85,14 @@ shown =
     -- 6: +X 2 -Y 2 and pixels 1, 2, 3, 4 are rows 1 2 and 3 4
     ∷ reads Crate (file [] (columns (digit 2) (digit 2)) ++ (1 ∷ 0 ∷ 0 ∷ 136 ∷ 2 ∷ 0 ∷ 0 ∷ 136 ∷ 3 ∷ 0 ∷ 0 ∷ 136 ∷ 4 ∷ 0 ∷ 0 ∷ 136 ∷ []))
     (replicate 12 (whole 1 1)) (replicate 8 7)
-    (done (head nothing 2 2 34))
+    (done (head nothing upright 2 2 34))
     (whole 1 0 ∷ none ∷ none ∷ whole 1 1 ∷ none ∷ none ∷ whole 3 0 ∷ none ∷ none ∷ whole 1 2 ∷ none ∷ none ∷ [])
+    (3 ∷ 0 ∷ 0 ∷ 136 ∷ 4 ∷ 0 ∷ 0 ∷ 136 ∷ [])
+    -- and by the document reading columns, so that the rows are 1 3 and 2 4
+    ∷ reads Document (file [] (columns (digit 2) (digit 2)) ++ (1 ∷ 0 ∷ 0 ∷ 136 ∷ 2 ∷ 0 ∷ 0 ∷ 136 ∷ 3 ∷ 0 ∷ 0 ∷ 136 ∷ 4 ∷ 0 ∷ 0 ∷ 136 ∷ []))
+    (replicate 12 (whole 1 1)) (replicate 8 7)
+    (done (head nothing (orientation true false false) 2 2 34))
+    (part 3 1 ∷ half ∷ half ∷ part 7 1 ∷ half ∷ half ∷ part 5 1 ∷ half ∷ half ∷ part 9 1 ∷ half ∷ half ∷ [])
     (3 ∷ 0 ∷ 0 ∷ 136 ∷ 4 ∷ 0 ∷ 0 ∷ 136 ∷ [])
     -- 7: what the crate writes for dark light, 0,0,0,128, is black, and by the document reading half a step of grey, 2^-9
     ∷ shows Crate (rgbe 0 0 0 128) (pixel none none none)
@@ -90,12 +100,12 @@ shown =
     -- 8: by the crate reading FORMAT and EXPOSURE are passed over
     ∷ reads Crate (file (format ++ exposure) (rows (digit 1) (digit 1)) ++ (128 ∷ 64 ∷ 32 ∷ 129 ∷ []))
     (replicate 3 (whole 1 1)) (replicate 4 7)
-    (done (head nothing 1 1 56))
+    (done (head nothing upright 1 1 56))
     (whole 1 0 ∷ part 1 1 ∷ part 1 2 ∷ []) (128 ∷ 64 ∷ 32 ∷ 129 ∷ [])
     -- and by the document reading answered, with the same samples
     ∷ reads Document (file (format ++ exposure) (rows (digit 1) (digit 1)) ++ (128 ∷ 64 ∷ 32 ∷ 129 ∷ []))
     (replicate 3 (whole 1 1)) (replicate 4 7)
-    (done (head (record { colour = Xyze; exposure = Stated (whole 1 1) }) 1 1 56))
+    (done (head (record { colour = Xyze; exposure = Stated (whole 1 1) }) upright 1 1 56))
     (part 257 8 ∷ part 129 8 ∷ part 65 8 ∷ []) (128 ∷ 64 ∷ 32 ∷ 129 ∷ [])
     -- 9: a no-break space behind an axis is not trimmed
     ∷ reads Crate (file [] (minusY ++ (194 ∷ 160 ∷ space ∷ 48 ∷ space ∷ (plusX ++ (space ∷ digit 1))))) (none ∷ []) (replicate 4 7) (refuse 2) (none ∷ []) (replicate 4 7)

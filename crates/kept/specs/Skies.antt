@@ -18,7 +18,7 @@ use Rattle.header.specs.declared.Head.{Head}
 use Rattle.stated.specs.Said.{nothing}
 use Rattle.header.specs.Head.{head}
 use Rattle.words.specs.Lines.{rgbeLine, lineFeed, space}
-use Rattle.words.specs.Fields.{minusY, plusX}
+use Rattle.words.specs.Axes.{minusY, plusX, upright}
 use Rattle.channels_written.specs.Channel.{code}
 use Rattle.reader.specs.Read.{readOf}
 
@@ -90,7 +90,7 @@ skies =
     reads Crate [] (whole 1 0 ∷ []) (7 ∷ []) (refuse 1) (whole 1 0 ∷ []) (7 ∷ [])
     ∷ reads Crate (35 ∷ 63 ∷ 82 ∷ 65 ∷ 68 ∷ 73 ∷ 65 ∷ 78 ∷ 67 ∷ 69 ∷ []) [] [] (refuse 1) [] []
     -- 2: height 0 and width 3: done, 18 taken, no sample written
-    ∷ reads Crate (small 0 3) (whole 1 0 ∷ []) (replicate 13 7) (done (head nothing 3 0 18)) (whole 1 0 ∷ []) (replicate 12 0 ++ 7 ∷ [])
+    ∷ reads Crate (small 0 3) (whole 1 0 ∷ []) (replicate 13 7) (done (head nothing upright 3 0 18)) (whole 1 0 ∷ []) (replicate 12 0 ++ 7 ∷ [])
     -- 4: four bytes to samples
     ∷ shows Crate (rgbe 128 64 32 129) (pixel (whole 1 0) (part 1 1) (part 1 2))
     ∷ shows Document (rgbe 128 64 32 129) (pixel (part 257 8) (part 129 8) (part 65 8))
@@ -109,7 +109,7 @@ skies =
     -- by the document reading the two pixels wanted are copies of the second: done, 30 taken
     ∷ reads Document (small 1 4 ++ oldRun)
     (replicate 12 (whole 1 0)) (replicate 16 7)
-    (done (head nothing 4 1 30))
+    (done (head nothing upright 4 1 30))
     (tenth ∷ tenth ∷ tenth ∷ fifth ∷ fifth ∷ fifth ∷ fifth ∷ fifth ∷ fifth ∷ fifth ∷ fifth ∷ fifth ∷ [])
     (10 ∷ 10 ∷ 10 ∷ 129 ∷ 20 ∷ 20 ∷ 20 ∷ 129 ∷ 20 ∷ 20 ∷ 20 ∷ 129 ∷ 20 ∷ 20 ∷ 20 ∷ 129 ∷ [])
     -- 6: channels

@@ -15,7 +15,8 @@ use Rattle.steps.specs.declared.Reading.the-variants.{Crate, Document}
 use Rattle.steps.proofs.Laws.Turns.{and-left, and-right}
 use Rattle.steps.proofs.Laws.Place.{drop-past}
 use Rattle.words.specs.Lines.{lineFeed, space, upTo, past, between, same, isFirst, linesEnd}
-use Rattle.words.specs.Fields.{isBlank, trimStart, trimEnd, trim, minusY, plusX, axesOf}
+use Rattle.words.specs.Fields.{isBlank, trimStart, trimEnd, trim}
+use Rattle.words.specs.Axes.{minusY, plusX, upright, axisOf, axesOf}
 use Rattle.words.specs.Sizes.{isDigit, allDigits, valueFrom, isNumber, isSome, isSize, sizeOf}
 use Rattle.words.specs.Inner.{sizeAnswer}
 use Rattle.stated.specs.declared.SaidAnswer.the-variants.{Heard}
@@ -23,14 +24,14 @@ use Rattle.stated.specs.declared.Colour.the-variants.{Rgbe}
 use Rattle.stated.specs.Said.{nothing, coloured, starts, formatted, heard, saidOf, saidBy}
 use Rattle.stated.proofs.Laws.Said.{place}
 use Rattle.stated.proofs.Laws.Lines.{said-on, said-blank}
-use Rattle.header.specs.Head.{limit, head, headerOf}
+use Rattle.header.specs.Head.{takes, liesBy, limit, head, headerOf}
 use Rattle.header.specs.Written.{digits, written, writtenSaid}
 use Rattle.words.specs.declared.sizes.Size.the-variants.{Number}
-use Rattle.words.specs.declared.fields.Axes.the-variants.{HeightFirst}
+use Rattle.words.specs.declared.axes.Axes.the-variants.{Named}
 use Rattle.words.proofs.Laws.Lines.{upTo-found, upTo-on, lines-start, lines-on, lines-blank}
 use Rattle.words.proofs.Laws.Fields.{blank-by, blank-space, end-by}
 use Rattle.words.proofs.Laws.Sizes.{digit, unsigned-plain}
-use Rattle.header.proofs.Laws.Head.{sizes-read, fields-height, header-right}
+use Rattle.header.proofs.Laws.Head.{sizes-read, named-rows, fields-named, header-right}
 use Rattle.header.proofs.Laws.Written.{digits-one, digits-more, written-length}
 
 -- ---- A field where it stands
@@ -210,16 +211,24 @@ module _ (w h : ℕ) (rest : List ℕ) where
   unfolding written
   fields-there = simp append-assoc
 
-  axes-fields : (Ended space first) × (Ended space third) × (trim first ≡ minusY) × (trim third ≡ plusX) × (HeightFirst ≡ axesOf minusY plusX)
-  unfolding upTo trimStart trimEnd isBlank same axesOf
+  axes-fields : (Ended space first) × (Ended space third) × (trim first ≡ minusY) × (trim third ≡ plusX) × (Named upright ≡ axesOf minusY plusX)
+  unfolding upTo trimStart trimEnd isBlank same axisOf axesOf
   axes-fields = (λ after. refl, λ after. refl, refl, refl, refl)
 
   taken-there : 53 + length first + length second + length third + length fourth ≡ length (written w h)
   taken-there = omega (arith, written-length w h, length-append (digits h) (space ∷ []), length-append (digits w) (lineFeed ∷ []))
 
+  upright-taken : (reading : Reading) → true ≡ takes reading upright
+  upright-taken Crate = refl
+  upright-taken Document = refl
+
+  upright-lies : (reading : Reading) → upright ≡ liesBy reading upright
+  upright-lies Crate = refl
+  upright-lies Document = refl
+
   -- the written header, with any bytes after it, is read within the limits
   pub header-back : (reading : Reading) (widest highest : ℕ) → w ≤ limit widest → h ≤ limit highest
-      → headerOf reading bytes widest highest ≡ done (head (writtenSaid reading) w h (length (written w h)))
+      → headerOf reading bytes widest highest ≡ done (head (writtenSaid reading) upright w h (length (written w h)))
   header-back reading widest highest wide high =
       let W = digits-are w in
       let H = digits-are h in
@@ -234,7 +243,7 @@ module _ (w h : ℕ) (rest : List ℕ) where
       let e2 = drop-past bytes 53 first _ e1 in
       let e3 = drop-past bytes a second _ e2 in
       let e4 = drop-past bytes b third _ e3 in
-      let fields = fields-height bytes 53 a b c d
+      let fields = fields-named bytes 53 a b c d
       (past-there bytes 53 first _ e1 space (A .0))
       (past-there bytes a second _ e2 space (ended-there (digits h) space (lit< tt) (H .all)))
       (past-there bytes b third _ e3 space (A .1))
@@ -244,7 +253,8 @@ module _ (w h : ℕ) (rest : List ℕ) where
       (sym (ap trim (between-there bytes a second _ e2) ∙ trimmed-there h (digits h) space (blank-space space refl) H))
       (sym (ap trim (between-there bytes b third _ e3) ∙ A .3))
       (sym (ap trim (between-there bytes c fourth _ e4) ∙ trimmed-there w (digits w) lineFeed feed-blank W))
-      (writtenSaid reading) widest highest HeightFirst (A .4) _ refl
-      (sizes-read (writtenSaid reading) (digits h) (digits w) d widest highest (Number h) height h refl (Number w) width w refl (limit highest) refl high (limit widest) refl wide) in
+      reading (writtenSaid reading) widest highest (Named upright) (A .4) _ upright refl
+      (named-rows reading (writtenSaid reading) upright (digits h) (digits w) d widest highest true (upright-taken reading) _ refl upright (upright-lies reading) refl
+      (sizes-read (writtenSaid reading) upright (digits h) (digits w) d widest highest (Number h) height h refl (Number w) width w refl (limit highest) refl high (limit widest) refl wide)) in
       sym (header-right reading bytes widest highest 11 first-line true is-first _ refl (Heard (writtenSaid reading)) (sym (said-there reading)) (writtenSaid reading) 53 refl lines-there fields)
-      ∙ ap (λ (n : ℕ). done (head (writtenSaid reading) w h n)) taken-there
+      ∙ ap (λ (n : ℕ). done (head (writtenSaid reading) upright w h n)) taken-there

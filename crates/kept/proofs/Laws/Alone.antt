@@ -7,7 +7,8 @@ use borrow.Author.Tests.{le-ltb, ltb-false, eqb-false}
 use lib.Ieee.{Float}
 use lib.ListN.{length, take, drop, take-append-drop}
 use lib.Seq.{length-take-le}
-use Rattle.steps.specs.Loop.{Turn, more, halt, run}
+use mathlib.Core.Bool.{Bool, true, false}
+use Rattle.steps.specs.Loop.{pick, Turn, more, halt, run}
 use Rattle.steps.specs.Answer.{Answer, done, refused}
 use Rattle.steps.proofs.Laws.Turns.{Leads, run-keeps}
 use Rattle.steps.proofs.Laws.Machines.{more-halt, halted, same-run}
@@ -26,7 +27,8 @@ use Rattle.rows_read.proofs.Laws.Alike.{Near, near-or, NonePast}
 use Rattle.rows_read.proofs.Laws.Behind.{reading-alone, reading-past, document-first}
 use Rattle.rows_read.proofs.Laws.Bounds.{reading-sound}
 use Rattle.reader.specs.Samples.{SampleRule}
-use Rattle.reader.specs.Frame.{Stored, storedOf, cleared, stepOf, Rows, rows, Left, rowTurn, noRows, rowsOf}
+use Rattle.places.specs.Places.{Stored}
+use Rattle.reader.specs.Frame.{storedOf, cleared, stepOf, Rows, rows, Left, rowTurn, noRows, rowsOf}
 use Rattle.reader.specs.Read.{pixelBy, readBy}
 use Rattle.reader.proofs.Laws.Frame.{faulted, went-on, rows-cases}
 use Rattle.kept.specs.Alone.{TakenAlone}
@@ -156,9 +158,14 @@ module _ (reading : Reading) (bytes : List ℕ) (widest highest : ℕ) (out out�
   -- all bytes that are taken are there, the header's first
   pub taken-there : (own .taken ≤ head .taken) × (head .taken ≤ length bytes)
   taken-there =
-      let last = start-within (rowOf reading) (reading-sound reading) bytes (own .width) (own .taken) (cleared (own .width) store) (header-within reading bytes widest highest own (f .header)) (own .height) in
-      let is : head .taken ≡ before (rowOf reading) bytes (own .width) (own .taken) (cleared (own .width) store) (own .height) .0 = ap (λ (z : ℕ × List ℕ). z .0) (rows-there .1) in
+      let last = start-within (rowOf reading) (reading-sound reading) bytes (storedOf own .long) (own .taken) (cleared (storedOf own .long) store) (header-within reading bytes widest highest own (f .header)) (storedOf own .count) in
+      let is : head .taken ≡ before (rowOf reading) bytes (storedOf own .long) (own .taken) (cleared (storedOf own .long) store) (storedOf own .count) .0 = ap (λ (z : ℕ × List ℕ). z .0) (rows-there .1) in
       (omega arith, omega arith)
+
+-- where there are pixels, there are stored rows, and they have some
+pub stored-some : (columns : Bool) (width height : ℕ) → 0 < width → 0 < height → (0 < pick columns height width) × (0 < pick columns width height)
+stored-some true width height h k = (k, h)
+stored-some false width height h k = (h, k)
 
 -- by the document reading a row takes bytes
 pub rows-begun : (bytes : List ℕ) (widest highest : ℕ) (out out′ : List Float) (store store′ : List ℕ) (head : Head)
@@ -167,9 +174,10 @@ unfolding before
 rows-begun bytes widest highest out out′ store store′ head f high =
     let own = f .own in
     let some : 0 < own .width = omega (arith, eqb-false (own .width) 0 (f .checks .1 .0)) in
-    let first = rows-there Document bytes widest highest out out′ store store′ head f .0 .read 0 high in
-    let end = start-within (rowOf Document) (reading-sound Document) bytes (own .width) (own .taken) (cleared (own .width) store) (header-within Document bytes widest highest own (f .header)) 1 in
-    omega (arith, document-first bytes (own .taken) (cleared (own .width) store) (own .width) _ some (end .1) first)
+    let rows = stored-some (own .orientation .columns) (own .width) (own .height) some high in
+    let first = rows-there Document bytes widest highest out out′ store store′ head f .0 .read 0 (rows .1) in
+    let end = start-within (rowOf Document) (reading-sound Document) bytes (storedOf own .long) (own .taken) (cleared (storedOf own .long) store) (header-within Document bytes widest highest own (f .header)) 1 in
+    omega (arith, document-first bytes (own .taken) (cleared (storedOf own .long) store) (storedOf own .long) _ (rows .0) (end .1) first)
 
 pub taken-alone : (reading : Reading) → TakenAlone reading
 taken-alone Crate bytes other widest highest out out′ store store′ head e seen alike =

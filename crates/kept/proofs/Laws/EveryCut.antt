@@ -24,7 +24,8 @@ use Rattle.rows_read.specs.Middle.{Alike, Rests}
 use Rattle.rows_read.proofs.Laws.Bounds.{reading-sound}
 use Rattle.rows_read.proofs.Laws.Behind.{reading-alone, reading-past}
 use Rattle.pixel.specs.Rgbe.{rgbeAt}
-use Rattle.reader.specs.Frame.{Stored, storedOf, cleared, Left, rowsOf}
+use Rattle.places.specs.Places.{Stored}
+use Rattle.reader.specs.Frame.{storedOf, cleared, Left, rowsOf}
 use Rattle.reader.specs.Read.{frameChecks, framed, documentPixel, readOf}
 use Rattle.reader.specs.Inner.{frameAnswer}
 use Rattle.reader.proofs.Laws.Read.{read-frame}
@@ -58,7 +59,7 @@ module _ (bytes : List ℕ) (m widest highest : ℕ) (out out′ : List Float) (
   stored = storedOf own
 
   abbrev begun : List ℕ
-  begun = cleared (own .width) store
+  begun = cleared (stored .long) store
 
   abbrev begin : List ℕ
   begin = take m bytes
@@ -77,10 +78,10 @@ module _ (bytes : List ℕ) (m widest highest : ℕ) (out out′ : List Float) (
   rows = rowsOf documentRow documentPixel begin stored (own .taken) out begun
 
   abbrev start : List ℕ → ℕ → ℕ
-  start b k = before documentRow b (own .width) (own .taken) begun k .0
+  start b k = before documentRow b (stored .long) (own .taken) begun k .0
 
   abbrev row : List ℕ → ℕ → Taken × List ℕ
-  row b k = rowAt documentRow b (own .width) (own .taken) begun k
+  row b k = rowAt documentRow b (stored .long) (own .taken) begun k
 
   -- an answer that rests on the bytes that are left would be that of the whole file
   same-rows : Firm 0 (length begin) m (rows .0) → rowsOf documentRow documentPixel bytes stored (own .taken) out begun ≡ rows
@@ -94,7 +95,7 @@ module _ (bytes : List ℕ) (m widest highest : ℕ) (out out′ : List Float) (
   left = rows-left documentRow documentPixel begin stored (own .taken) begun (stored-apart own) out (stored-inside own (length out) room)
 
   within : (k : ℕ) → start begin k ≤ m
-  within k = omega (arith, long, start-within documentRow (reading-sound Document) begin (own .width) (own .taken) begun (omega (arith, long)) k .1)
+  within k = omega (arith, long, start-within documentRow (reading-sound Document) begin (stored .long) (own .taken) begun (omega (arith, long)) k .1)
 
   -- ---- The row at fault
 
@@ -102,12 +103,12 @@ module _ (bytes : List ℕ) (m widest highest : ℕ) (out out′ : List Float) (
     done-rows : (j : ℕ) → j < k → Rests 0 (length begin) m (row begin j .0)
     done-rows j h = subst (Rests 0 (length begin) m) (sym (at-fault .1 .read j h)) (within (j + 1), omega (arith, long, within (j + 1)))
 
-    starts : (j : ℕ) → j ≤ k → before documentRow bytes (own .width) (own .taken) begun j ≡ before documentRow begin (own .width) (own .taken) begun j
+    starts : (j : ℕ) → j ≤ k → before documentRow bytes (stored .long) (own .taken) begun j ≡ before documentRow begin (stored .long) (own .taken) begun j
     starts j h =
-        starts-same documentRow (reading-alone Document) begin bytes m (to-whole bytes m short) (own .width) (own .taken) begun j (λ i l. done-rows i (omega arith))
+        starts-same documentRow (reading-alone Document) begin bytes m (to-whole bytes m short) (stored .long) (own .taken) begun j (λ i l. done-rows i (omega arith))
 
     rows-are : (j : ℕ) → j < k → row bytes j ≡ row begin j
-    rows-are j h = rows-same documentRow (reading-alone Document) begin bytes m (to-whole bytes m short) (own .width) (own .taken) begun k done-rows j h
+    rows-are j h = rows-same documentRow (reading-alone Document) begin bytes m (to-whole bytes m short) (stored .long) (own .taken) begun k done-rows j h
 
     -- the row k of the whole file is done, and ends behind the cut
     whole-row : row bytes k .0 ≡ Done (start bytes (k + 1))
@@ -117,8 +118,8 @@ module _ (bytes : List ℕ) (m widest highest : ℕ) (out out′ : List Float) (
     ends-behind =
         by-order m (start bytes (k + 1)) (λ h. h)
         (λ h. let rests : Rests 0 (length bytes) m (row bytes k .0) = subst (Rests 0 (length bytes) m) (sym whole-row) (h, omega (arith, short)) in
-        let same = reading-alone Document bytes begin m (before documentRow bytes (own .width) (own .taken) begun k .0) (before documentRow bytes (own .width) (own .taken) begun k .1) (own .width) (to-cut bytes m short) rests in
-        let here : row begin k ≡ row bytes k = ap (λ (z : ℕ × List ℕ). documentRow begin (z .0) (z .1) (own .width)) (sym (starts k (omega arith))) ∙ same in
+        let same = reading-alone Document bytes begin m (before documentRow bytes (stored .long) (own .taken) begun k .0) (before documentRow bytes (stored .long) (own .taken) begun k .1) (stored .long) (to-cut bytes m short) rests in
+        let here : row begin k ≡ row bytes k = ap (λ (z : ℕ × List ℕ). documentRow begin (z .0) (z .1) (stored .long)) (sym (starts k (omega arith))) ∙ same in
         never-both (start bytes (k + 1)) 9 (sym whole-row ∙ sym (ap (λ (z : Taken × List ℕ). z .0) here) ∙ sym (ap (λ (z : Taken × List ℕ). z .0) (at-fault .2))))
 
     in-row : CutIn bytes own store m k

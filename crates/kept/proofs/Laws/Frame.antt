@@ -4,6 +4,7 @@ use mathlib.Core.Bool.{false}
 use mathlib.Core.List.{List, _++_, append-assoc}
 use mathlib.Core.Path.{_≡_, refl, sym, ap, subst, _∙_}
 use native.Mathlib.Nat.{suc-mul, zero-mul}
+use native.Mathlib.Numerals.{add-one}
 use native.Mathlib.Omega.{arith}
 use lib.Ieee.{Float}
 use lib.ListN.{length, replicate, length-append}
@@ -13,6 +14,7 @@ use Rattle.steps.specs.declared.Reading.{Reading}
 use Rattle.steps.specs.declared.Taken.the-variants.{Done}
 use Rattle.steps.proofs.Laws.Loop.{Runs}
 use Rattle.steps.proofs.Laws.Place.{length-spread, spread-then}
+use Rattle.words.specs.Axes.{upright}
 use Rattle.header.specs.declared.Head.{Head}
 use Rattle.header.specs.declared.HeadAnswer.the-variants.{Read}
 use Rattle.header.specs.Head.{limit, head, headerOf}
@@ -28,7 +30,8 @@ use Rattle.reader.specs.Samples.{SampleRule}
 use Rattle.reader.specs.Frame as reader
 use Rattle.reader.specs.Inner.{samplesFrom}
 use Rattle.reader.specs.Read.{answerOf, framed, readBy}
-use Rattle.reader.proofs.Laws.Frame.{row-next, step-done, rows-start, rows-done, rows-again}
+use Rattle.reader.proofs.Laws.Frame.{step-done, rows-start, rows-done, rows-again}
+use Rattle.reader.proofs.Laws.Samples.{placed-on}
 use Rattle.reader.proofs.Laws.Read.{frame-rows, read-frame}
 use Rattle.frames_written.specs.Frame.{writtenRows, frameOf}
 use Rattle.kept.proofs.Laws.Samples.{samples-stored, length-samples, samples-append}
@@ -59,14 +62,15 @@ module _ (rule : SampleRule) where
       ≡ spread 1 out (3 * (row * w)) (samplesFrom rule px at (w + n * w))
   row-samples px at w n row out =
       let first : List Float = samplesFrom rule px at w in
-      let place : 3 * ((row + 1) * w) ≡ 3 * (row * w) + length first = omega (arith, row-next row w (row * w) refl, length-samples rule px at w) in
+      let row-next : (row + 1) * w ≡ row * w + w = rw (add-one, suc-mul) in
+      let place : 3 * ((row + 1) * w) ≡ 3 * (row * w) + length first = omega (arith, row-next, length-samples rule px at w) in
       sym (ap (spread 1 out (3 * (row * w))) (samples-append rule px at w (n * w)) ∙ spread-then out _ (3 * (row * w)) (3 * ((row + 1) * w)) first _ refl place)
 
 -- ---- The rows, by such a rule and any rule for a pixel
 
 -- what the header of a frame says
 abbrev said : Reading → ℕ → ℕ → Head
-said reading w h = head (writtenSaid reading) w h (length (written w h))
+said reading w h = head (writtenSaid reading) upright w h (length (written w h))
 
 module _ (reading : Reading) (rowRule : RowRule) (rule : SampleRule) (back : RowsBack rowRule) where
   module _ (bytes px : List ℕ) (w h : ℕ) where
@@ -84,8 +88,8 @@ module _ (reading : Reading) (rowRule : RowRule) (rule : SampleRule) (back : Row
         → Gives (length (pre ++ writtenRow px at w)) (row + 1) (spread 1 store 0 (bytesFrom px at (4 * w))) (spread 1 out (3 * (row * w)) (samplesFrom rule px at w)) a
     row-there row at pre store others out a e none room more r =
         let next : ℕ = length pre + length (writtenRow px at w) in
-        let step = step-done rowRule rule w (row * w) bytes (length pre) out store (Done next) _ (row-read pre store others at none e) next (3 * (row * w)) _ refl refl
-        (ap (spread 1 out (3 * (row * w))) (sym (samples-stored rule px store at w room))) in
+        let step = step-done rowRule rule w (λ i. row * w + i) bytes (length pre) out store (Done next) _ (row-read pre store others at none e) next _ refl
+        (ap (spread 1 out (3 * (row * w))) (sym (samples-stored rule px store at w room)) ∙ sym (placed-on rule (row * w) _ out w)) in
         rw (length-append pre (writtenRow px at w))
         (rows-again rowRule rule bytes (reader.storedOf (said reading w h)) (length pre) row store out a r more (Done next) _ _ step next refl)
 
@@ -131,16 +135,16 @@ module _ (reading : Reading) (rowRule : RowRule) (rule : SampleRule) (back : Row
           let header : headerOf reading bytes widest highest ≡ done (said reading w h) =
           ap (λ (l : List ℕ). headerOf reading l widest highest) split ∙ header-back w h (writtenRows px 0 w h ++ rest) reading widest highest wide high in
           read-frame reading rowRule rule bytes widest highest out store (Read (said reading w h)) (sym header) (said reading w h) _ refl
-          (frame-rows rowRule rule bytes (said reading w h) out store room (λ e. omega arith) (reader.cleared w store) _ row refl refl)
+          (frame-rows rowRule rule bytes (said reading w h) out store room (λ e. omega arith) w refl (reader.cleared w store) _ row refl refl)
 
       pub frame-back : Ordinary px 0 w (h * w)
-          → (readBy reading rowRule rule bytes widest highest out store .0 ≡ done (head (writtenSaid reading) w h (length (frameOf px w h))))
+          → (readBy reading rowRule rule bytes widest highest out store .0 ≡ done (head (writtenSaid reading) upright w h (length (frameOf px w h))))
           × (readBy reading rowRule rule bytes widest highest out store .1 ≡ spread 1 out 0 (samplesFrom rule px 0 (h * w)))
       frame-back none =
           let room′ : 4 * w ≤ length (reader.cleared w store) = omega (arith, length-spread 1 store 0 (replicate (4 * w) 0)) in
           let there = rows-there bytes px w h rest h 0 0 (written w h) (reader.cleared w store) out _ split none room′ (omega arith)
           (rows-start rowRule rule bytes (reader.storedOf (said reading w h)) (length (written w h)) out (reader.cleared w store)) in
           let start : 3 * (0 * w) ≡ 0 = omega (arith, zero-mul w) in (
-            sym (ap (λ (z : Answer Head × List Float × List ℕ). z .0) by-rows) ∙ ap (answerOf (said reading w h)) (there .0) ∙ ap (λ (n : ℕ). done (head (writtenSaid reading) w h n)) frame-size,
+            sym (ap (λ (z : Answer Head × List Float × List ℕ). z .0) by-rows) ∙ ap (answerOf (said reading w h)) (there .0) ∙ ap (λ (n : ℕ). done (head (writtenSaid reading) upright w h n)) frame-size,
             sym (ap (λ (z : Answer Head × List Float × List ℕ). z .1) by-rows) ∙ there .1 ∙ ap (λ (p : ℕ). spread 1 out p (samplesFrom rule px 0 (h * w))) start,
           )

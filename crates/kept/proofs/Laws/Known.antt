@@ -13,7 +13,7 @@ use Rattle.steps.specs.Answer.{Answer, done, refused, refuse, Check, check, che
 use Rattle.steps.specs.declared.refusal.Refusal.{Refusal}
 use Rattle.steps.proofs.Laws.Answer.{differ}
 use Rattle.steps.proofs.Laws.Turns.{by-test}
-use Rattle.words.specs.Fields.{axesOf}
+use Rattle.words.specs.Axes.{axesOf}
 use Rattle.stated.specs.declared.Said.{Said}
 use Rattle.stated.specs.Said.{nothing, faultOf}
 use Rattle.stated.proofs.Laws.Lines.{LineFault, said-number}
@@ -89,7 +89,7 @@ pub header-known : (reading : Reading) (bytes : List ℕ) (widest highest : ℕ)
 unfolding headerOf headChecks
 header-known reading bytes widest highest refusal promise =
     let f = fieldsOf bytes in
-    let checks = fieldChecks (axesOf (f .first) (f .third)) f widest highest in
+    let checks = fieldChecks reading (axesOf (f .first) (f .third)) f widest highest in
     subst (Known (HeadNumber reading)) (sym promise)
     (known-checked (HeadNumber reading) (λ a. a) refuse (headChecks reading bytes widest highest) (done (headIn reading bytes)) (
       λ e. inl (lit≤ tt, lit≤ tt),
@@ -108,7 +108,7 @@ unfolding readBy headChecks
 read-known reading bytes widest highest out out′ store store′ refusal promise =
     let f = fieldsOf bytes in
     let head = headIn reading bytes in
-    let checks = fieldChecks (axesOf (f .first) (f .third)) f widest highest ++ frameChecks head out store in
+    let checks = fieldChecks reading (axesOf (f .first) (f .third)) f widest highest ++ frameChecks head out store in
     let rows = rowsOf (rowOf reading) (pixelBy reading) bytes (storedOf head) (head .taken) out (cleared (storedOf head .long) store) in
     subst (λ (z : Answer Head × List Float × List ℕ). Known (ReadNumber reading) (z .0)) (sym promise)
     (known-checked (ReadNumber reading) (λ (z : Answer Head × List Float × List ℕ). z .0) (λ n. (refuse n, out, store)) (headChecks reading bytes widest highest ++ frameChecks head out store) (framed head rows) (

@@ -17,7 +17,7 @@ use Rattle.steps.proofs.Laws.Turns.{by-test, Leads, run-keeps}
 use Rattle.steps.proofs.Laws.Answer.{differ}
 use Rattle.header.specs.declared.Head.{Head}
 use Rattle.header.specs.Head.{headerOf}
-use Rattle.header.proofs.Laws.Head.{header-within}
+use Rattle.header.proofs.Laws.Head.{header-upright, header-within}
 use Rattle.channels_read.specs.Channel.{Chan, channelOf, channelOut, channelTurn, crateCount, spanLength, spanOf, spanTaken}
 use Rattle.channels_read.specs.Channels.{Chans, channelsOf, chansOut, chansTurn}
 use Rattle.channels_read.proofs.Laws.Channel.{length-run, length-literals, taken-run, taken-literals, channel-cases}
@@ -29,7 +29,10 @@ use Rattle.rows_read.specs.Row.{partsOf, rowOf, crateRow, crateStart, isFlatWid
 use Rattle.rows_read.proofs.Laws.Row.{kind-cases, not-flat}
 use Rattle.rows_read.proofs.Laws.Bounds.{reading-sound}
 use Rattle.reader.specs.Samples.{SampleRule}
-use Rattle.reader.specs.Frame.{Stored, storedOf, cleared, stepOf, Rows, Left, rowTurn, noRows, rowsOf}
+use Rattle.words.specs.Axes.{upright}
+use Rattle.words.specs.declared.axes.Orientation.{Orientation}
+use Rattle.places.specs.Places.{Stored, longOf, countOf}
+use Rattle.reader.specs.Frame.{storedOf, cleared, stepOf, Rows, Left, rowTurn, noRows, rowsOf}
 use Rattle.reader.specs.Read.{readBy}
 use Rattle.reader.proofs.Laws.Frame.{rows-cases, went-on}
 use Rattle.kept.specs.Least.{AreBytes, countsOf, codedLeast, leastOf}
@@ -246,4 +249,7 @@ least-read rule bytes are widest highest out store head a e f =
     let both : _≡_ {A = Answer Head} (done h) (done head) = sym (r .header) ∙ e in
     let is : h ≡ head = cc in
     let took = rows-took rule bytes are (storedOf h) (h .taken) (header-within Crate bytes widest highest h (r .header)) out (cleared (storedOf h .long) store) in
-    subst (λ (x : Head). (x .taken + leastOf (x .width) (x .height) ≤ a .taken) × (a .taken ≤ length bytes)) is (took .upto (a .taken) (ap (λ (z : Left). z .0) (r .rows)))
+    let lies : h .orientation ≡ upright = header-upright Crate bytes widest highest h (r .header) refl in
+    subst (λ (x : Head). (x .taken + leastOf (x .width) (x .height) ≤ a .taken) × (a .taken ≤ length bytes)) is
+    (subst (λ (o : Orientation). (h .taken + leastOf (longOf o (h .width) (h .height)) (countOf o (h .width) (h .height)) ≤ a .taken) × (a .taken ≤ length bytes)) lies
+    (took .upto (a .taken) (ap (λ (z : Left). z .0) (r .rows))))

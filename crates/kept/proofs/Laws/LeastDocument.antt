@@ -26,12 +26,12 @@ use Rattle.channels_read.proofs.Laws.Channel.{taken-run, taken-literals, docume
 use Rattle.channels_read.proofs.Laws.Channels.{apart}
 use Rattle.rows_read.specs.Row.{isFlatWidth, restBy, rowBy, documentStart, partsOf, rowOf, documentRow}
 use Rattle.rows_read.proofs.Laws.Row.{kind-cases}
-use Rattle.reader.specs.Frame.{cleared}
+use Rattle.reader.specs.Frame.{storedOf, cleared}
 use Rattle.reader.specs.Read.{documentPixel, readOf}
 use Rattle.kept.specs.Least.{AreBytes, rowLeast, documentLeast}
 use Rattle.kept.specs.Lent.{before, rowAt}
 use Rattle.kept.proofs.Laws.Done.{file-read}
-use Rattle.kept.proofs.Laws.Alone.{rows-there}
+use Rattle.kept.proofs.Laws.Alone.{rows-there, stored-some}
 
 -- ---- How many pixels so many stored ones stand for
 
@@ -209,13 +209,16 @@ rows-took bytes are long at store w (suc n) read =
     omega (arith, suc-mul n (rowLeast long))
 
 pub document-least : (bytes : List ℕ) → AreBytes bytes → (widest highest : ℕ) (out out′ : List Float) (store store′ : List ℕ) (own head : Head) → headerOf Document bytes widest highest ≡ done own
-    → readOf Document bytes widest highest out store ≡ (done head, out′, store′) → own .taken + documentLeast (own .width) (own .height) ≤ head .taken
-document-least bytes are widest highest out out′ store store′ own head header e =
+    → readOf Document bytes widest highest out store ≡ (done head, out′, store′) → 0 < own .height → own .taken + documentLeast (storedOf own .long) (storedOf own .count) ≤ head .taken
+document-least bytes are widest highest out out′ store store′ own head header e high =
     let f = file-read Document documentRow documentPixel bytes widest highest out store head out′ store′ e in
     let both : _≡_ {A = Answer Head} (done (f .own)) (done own) = sym (f .header) ∙ header in
     let same : f .own ≡ own = cc in
     let rows = rows-there Document bytes widest highest out out′ store store′ head f in
     let some : 0 < f .own .width = omega (arith, eqb-false (f .own .width) 0 (f .checks .1 .0)) in
-    let last : head .taken ≡ before documentRow bytes (f .own .width) (f .own .taken) (cleared (f .own .width) store) (f .own .height) .0 = ap (λ (z : ℕ × List ℕ). z .0) (rows .1) in
-    subst (λ (h : Head). h .taken + documentLeast (h .width) (h .height) ≤ head .taken) same
-    (omega (arith, last, rows-took bytes are (f .own .width) (f .own .taken) (cleared (f .own .width) store) some (f .own .height) (λ k h. rows .0 .read k h)))
+    let higher : 0 < f .own .height = subst (λ (h : Head). 0 < h .height) (sym same) high in
+    let stored = storedOf (f .own) in
+    let pixels : 0 < stored .long = stored-some (f .own .orientation .columns) (f .own .width) (f .own .height) some higher .0 in
+    let last : head .taken ≡ before documentRow bytes (stored .long) (f .own .taken) (cleared (stored .long) store) (stored .count) .0 = ap (λ (z : ℕ × List ℕ). z .0) (rows .1) in
+    subst (λ (h : Head). h .taken + documentLeast (storedOf h .long) (storedOf h .count) ≤ head .taken) same
+    (omega (arith, last, rows-took bytes are (stored .long) (f .own .taken) (cleared (stored .long) store) pixels (stored .count) (λ k h. rows .0 .read k h)))

@@ -4,7 +4,7 @@ use mathlib.Core.Bool.{true, false}
 use mathlib.Core.List.{List, [], _∷_, _++_}
 use mathlib.Core.Logic.{_⊎_, inl, inr, ⊎-elim}
 use mathlib.Core.Path.{_≡_, refl, sym, ap, subst, _∙_}
-use native.Mathlib.Nat.{mul-comm, mul-le-mul-right, mul-left-comm, suc-mul}
+use native.Mathlib.Nat.{mul-comm, mul-left-comm}
 use native.Mathlib.Numerals.{add-one}
 use native.Mathlib.Omega.{arith}
 use borrow.Author.Tests.{ltb-false}
@@ -29,7 +29,9 @@ use Rattle.rows_read.proofs.Laws.Kept.{Kept, kept-same, kept-then, kept-spread}
 use Rattle.rows_read.proofs.Laws.Bounds.{SoundRow, reading-sound}
 use Rattle.pixel.specs.Rgbe.{rgbeAt}
 use Rattle.reader.specs.Samples.{SampleRule, three, placed}
-use Rattle.reader.specs.Frame.{Stored, storedOf, cleared, stepOf, Left, rows, rowTurn, noRows, rowsOf}
+use Rattle.places.specs.Places.{Stored}
+use Rattle.places.proofs.Laws.Eight.{rearranged}
+use Rattle.reader.specs.Frame.{storedOf, cleared, stepOf, Left, rows, rowTurn, noRows, rowsOf}
 use Rattle.reader.specs.Read.{frameChecks, answerOf, framed, pixelBy, readBy, readOf}
 use Rattle.reader.proofs.Laws.Frame.{faulted, went-on, rows-start, rows-done, rows-fault, rows-again}
 use Rattle.kept.specs.Back.{pixel, Beyond}
@@ -86,7 +88,7 @@ module _ (rule : SampleRule) (place : ℕ → ℕ) (store : List ℕ) where
       placed-other p (i + 1) n _ (λ c l m e. h c (omega arith) (omega arith) e) ∙ put-other out (place i) (rule (rgbeAt store (4 * i))) p (λ e. h i (omega arith) (omega arith) e)
 
   -- each of the row's is there, where the places are apart and lie in the output
-  placed-here : (c i n : ℕ) (out : List Float) → ((d : ℕ) → i ≤ d → d < i + n → 3 * place d + 3 ≤ length out)
+  pub placed-here : (c i n : ℕ) (out : List Float) → ((d : ℕ) → i ≤ d → d < i + n → 3 * place d + 3 ≤ length out)
       → ((d e : ℕ) → i ≤ d → d < i + n → i ≤ e → e < i + n → place d ≡ place e → d ≡ e) → i ≤ c → c < i + n → pixel (placed rule place store i n out) (place c) ≡ rule (rgbeAt store (4 * c))
   unfolding placed
   placed-here c i zero out room apart l m = absurd (omega arith)
@@ -114,31 +116,13 @@ Apart stored =
 abbrev pub Inside : Stored → ℕ → Type 0
 Inside stored size = (k i : ℕ) → k < stored .count → i < stored .long → 3 * stored .place k i + 3 ≤ size
 
-row-below : (k l w i j : ℕ) → k < l → i < w → k * w + i ≡ l * w + j → ⊥
-row-below k l w i j h m e =
-    let rows : k * w + w ≤ l * w = rw suc-mul at (mul-le-mul-right {m = suc k} w h) in
-    omega arith
-
-row-under : (k h w i : ℕ) → k < h → i < w → k * w + i < h * w
-row-under k h w i l m =
-    let rows : k * w + w ≤ h * w = rw suc-mul at (mul-le-mul-right {m = suc k} w l) in
-    omega arith
-
 pub stored-apart : (head : Head) → Apart (storedOf head)
-stored-apart head k i l j hk hi hl hj e =
-    let w : ℕ = head .width in
-    ⊎-elim (λ h. absurd (row-below k l w i j h hi e))
-    (λ h. ⊎-elim (λ g. absurd (row-below l k w j i g hj (sym e)))
-    (λ g. let same : k ≡ l = omega arith in
-    let rows : k * w ≡ l * w = ap (λ (n : ℕ). n * w) same in
-    (same, omega arith)) (lt-or-ge l k))
-    (lt-or-ge k l)
+stored-apart head = rearranged (head .orientation) (head .width) (head .height) .apart
 
 pub stored-inside : (head : Head) (size : ℕ) → head .height * (3 * head .width) ≤ size → Inside (storedOf head) size
 stored-inside head size room k i hk hi =
-    let w : ℕ = head .width in
-    let all : 3 * (head .height * w) ≤ size = rw mul-left-comm at room in
-    omega (arith, row-under k (head .height) w i hk hi, all)
+    let all : 3 * (head .height * head .width) ≤ size = rw mul-left-comm at room in
+    omega (arith, rearranged (head .orientation) (head .width) (head .height) .inside k i hk hi, all)
 
 -- ---- The rows
 
@@ -349,5 +333,5 @@ lent-done reading bytes widest highest out store head e =
         let same : taking h next ≡ head = cc in
         let area : h .height * h .width ≡ head .width * head .height = mul-comm (h .height) (h .width) ∙ ap (λ (x : Head). x .width * x .height) same in
         subst (λ (n : ℕ). Beyond (3 * n) out o) area
-        (stand-beyond (pixelBy reading) (storedOf h) _ (h .height) (h .height * h .width) out o (left .0 .stand) (λ k i l j. row-under k (h .height) (h .width) i l j))
+        (stand-beyond (pixelBy reading) (storedOf h) _ (storedOf h .count) (h .height * h .width) out o (left .0 .stand) (rearranged (h .orientation) (h .width) (h .height) .inside))
     by-answer h (refused n k) o s e left = absurd (differ head n k (sym e))

@@ -16,7 +16,8 @@ use Rattle.header.specs.Head.{headChecks, headerOf, headIn}
 use Rattle.steps.specs.declared.Reading.{Reading}
 use Rattle.rows_read.specs.Row.{RowRule, rowOf, RowFault}
 use Rattle.reader.specs.Samples.{SampleRule}
-use Rattle.reader.specs.Frame.{Stored, storedOf, cleared, rowsOf, faultOf}
+use Rattle.places.specs.Places.{Stored}
+use Rattle.reader.specs.Frame.{storedOf, cleared, rowsOf, faultOf}
 use Rattle.reader.specs.Read.{frameChecks, answerOf, framed, pixelBy, readBy, readOf}
 use Rattle.reader.proofs.Laws.Read.{rows-number}
 use Rattle.frames_written.specs.Samples.{firstBright}

@@ -6,7 +6,8 @@ use Rattle.steps.specs.Place.{bytesFrom, spread}
 use Rattle.pixel.specs.Units.{ofUnits, mag}
 use Rattle.pixel.specs.Rgbe.{crateShift, scaleOf, unitsOf, peak, tooBright, bytesOf, packedOf}
 use Rattle.words.specs.Lines.{upTo, past, same, isFirst, lineTurn, linesEnd}
-use Rattle.words.specs.Fields.{isBlank, trimStart, trimEnd, fieldsAt, axesOf}
+use Rattle.words.specs.Fields.{isBlank, trimStart, trimEnd, fieldsAt}
+use Rattle.words.specs.Axes.{axisOf, axesOf}
 use Rattle.words.specs.Sizes.{unsigned, isDigit, allDigits, valueFrom, isNumber, isSize, sizeOf}
 use Rattle.stated.specs.Rounded.{nearestWhole, nearestUnits, usable}
 use Rattle.stated.specs.Exposure.{ahead, isFew, powerBy, powerOf, scaledUnits, digitUnits, pointUnits, exposureOf}
@@ -24,5 +25,5 @@ use Rattle.kept.specs.Skies.{Each}
 use Rattle.kept.specs.Shown.{unlit, shown}
 
 pub all-shown : Each shown
-unfolding round size run bytesFrom spread ofUnits mag crateShift scaleOf unitsOf peak tooBright bytesOf packedOf upTo past same isFirst lineTurn linesEnd saidOf saidTurn heard starts formatted exposed exposureOf ahead isFew powerBy powerOf scaledUnits digitUnits pointUnits nearestWhole nearestUnits usable saidIn isBlank trimStart trimEnd fieldsAt axesOf unsigned isDigit allDigits valueFrom isNumber isSize sizeOf fieldsOf headChecks headOf fourTo isRepeat copiesTo crateFlat documentOnes documentFlat flatTurn flatOf isRun spanLength spanBytes spanTaken spanOf crateCount documentCount channelTurn channelOf chansTurn channelsOf isFlatWidth isCoded isMark kindOf early rowBy crateStart documentStart documentMark partsOf rowOf unlit placed stepOf rowTurn rowsOf pixelBy readBy
-all-shown = (refl, (refl, (refl, (refl, (refl, (refl, (refl, (refl, (refl, (refl, (refl, (refl, (refl, (refl, (refl, (refl, (refl, (refl, (refl, (refl, (refl, (refl, (refl, (refl, tt))))))))))))))))))))))))
+unfolding round size run bytesFrom spread ofUnits mag crateShift scaleOf unitsOf peak tooBright bytesOf packedOf upTo past same isFirst lineTurn linesEnd saidOf saidTurn heard starts formatted exposed exposureOf ahead isFew powerBy powerOf scaledUnits digitUnits pointUnits nearestWhole nearestUnits usable saidIn isBlank trimStart trimEnd fieldsAt axisOf axesOf unsigned isDigit allDigits valueFrom isNumber isSize sizeOf fieldsOf headChecks headOf fourTo isRepeat copiesTo crateFlat documentOnes documentFlat flatTurn flatOf isRun spanLength spanBytes spanTaken spanOf crateCount documentCount channelTurn channelOf chansTurn channelsOf isFlatWidth isCoded isMark kindOf early rowBy crateStart documentStart documentMark partsOf rowOf unlit placed stepOf rowTurn rowsOf pixelBy readBy
+all-shown = (refl, (refl, (refl, (refl, (refl, (refl, (refl, (refl, (refl, (refl, (refl, (refl, (refl, (refl, (refl, (refl, (refl, (refl, (refl, (refl, (refl, (refl, (refl, (refl, (refl, tt)))))))))))))))))))))))))

@@ -13,7 +13,7 @@ use Rattle.steps.specs.Answer.{done}
 use Rattle.steps.specs.declared.Taken.{Taken}
 use Rattle.steps.specs.declared.Taken.the-variants.{Done, Fault}
 use Rattle.header.specs.declared.Head.{Head}
-use Rattle.header.proofs.Laws.Head.{header-within}
+use Rattle.header.proofs.Laws.Head.{header-upright, header-within}
 use Rattle.steps.specs.declared.Reading.the-variants.{Crate}
 use Rattle.rows_read.specs.Row.{crateRow}
 use Rattle.rows_read.specs.Middle.{Alike}
@@ -22,7 +22,10 @@ use Rattle.rows_read.proofs.Laws.Alike.{front-alike}
 use Rattle.rows_read.proofs.Laws.Bounds.{reading-sound}
 use Rattle.rows_read.proofs.Laws.Cut.{cut-row}
 use Rattle.rows_read.proofs.Laws.Whole.{row-or-cut}
-use Rattle.reader.specs.Frame.{Stored, storedOf, cleared, stepOf, Rows, rows, Left, rowTurn, noRows, rowsOf}
+use Rattle.words.specs.Axes.{upright}
+use Rattle.words.specs.declared.axes.Orientation.{Orientation}
+use Rattle.places.specs.Places.{Stored, longOf, countOf}
+use Rattle.reader.specs.Frame.{storedOf, cleared, stepOf, Rows, rows, Left, rowTurn, noRows, rowsOf}
 use Rattle.reader.specs.Read.{cratePixel}
 use Rattle.reader.proofs.Laws.Frame.{went-on, rows-cases}
 use Rattle.kept.specs.Cut.{AfterRows, WholeOrCut}
@@ -104,8 +107,11 @@ whole-or-cut bytes widest highest out out′ store store′ head e high =
     let f = file-read Crate crateRow cratePixel bytes widest highest out store head out′ store′ e in
     let h = f .own in
     let stored = storedOf h in
-    let count : h .height ≡ head .height = ap (λ (x : Head). x .height) (f .said) in
-    let wide : 0 < h .width = omega (arith, eqb-false (h .width) 0 (f .checks .1 .0)) in
+    let lies : h .orientation ≡ upright = header-upright Crate bytes widest highest h (f .header) refl in
+    let count : stored .count ≡ head .height = ap (λ (o : Orientation). countOf o (h .width) (h .height)) lies ∙ ap (λ (x : Head). x .height) (f .said) in
+    let some : 0 < h .width = omega (arith, eqb-false (h .width) 0 (f .checks .1 .0)) in
+    let long : stored .long ≡ h .width = ap (λ (o : Orientation). longOf o (h .width) (h .height)) lies in
+    let wide : 0 < stored .long = omega (arith, long, some) in
     let inside = header-within Crate bytes widest highest h (f .header) in
     let x = rows (h .taken) 0 (cleared (stored .long) store) out in
     let begun : h .taken < length bytes = by-order (h .taken) (length bytes) (λ l. l) (λ l. absurd (omega (arith, at-end bytes stored wide (stored .count + 1) x (head .taken) out′ store′ inside (f .rows) l))) in
@@ -115,8 +121,8 @@ whole-or-cut bytes widest highest out out′ store store′ head e high =
         head = h;
         header = f .header;
         room = ltb-false (length out) (h .height * (3 * h .width)) (f .checks .0);
-        some = wide;
-        row = ltb-false (length store) (4 * h .width) (f .checks .1 .1 .0);
+        some = some;
+        row = ltb-false (length store) (4 * stored .long) (f .checks .1 .1 .0);
         count = n;
         last = y;
         before = after;
