@@ -1,18 +1,20 @@
 -- The answer of any call as eight numbers: the number of the refusal or 0, its place or 0, and six values, each 0 where there is none.
 use Prim.Native.Nat.{ℕ}
+use mathlib.Core.Bool.{Bool, true, false}
 use mathlib.Core.List.{List, [], _∷_}
 use lib.Ieee.{Float, binary32, eq, toBits}
 use Rattle.steps.specs.Loop.{pick}
 use Rattle.steps.specs.Answer.{Answer, done, refused, refuse}
 use Rattle.steps.specs.declared.amount.Amount.{Amount}
 use Rattle.steps.specs.declared.amount.Amount.the-variants.{Number, None}
+use Rattle.words.specs.declared.axes.Orientation.{Orientation}
 use Rattle.stated.specs.declared.Colour.{Colour}
 use Rattle.stated.specs.declared.Colour.the-variants as colour
 use Rattle.stated.specs.declared.Exposure.{Exposure}
 use Rattle.stated.specs.declared.Exposure.the-variants as exposure
 use Rattle.header.specs.declared.Head.{Head}
 
--- what a call that does not refuse returns, as six numbers; orientation is 0 so far
+-- what a call that does not refuse returns, as six numbers
 pub record Values : Type 0 where
   pub width : ℕ
   pub height : ℕ
@@ -36,7 +38,22 @@ abbrev pub exposureOf : Exposure → ℕ
 exposureOf (exposure.Stated x) = patternOf x
 exposureOf exposure.NotStated = 0
 
--- of a header or a file read: width, height, the count of bytes taken, colour and exposure
+-- by whether X is named first, whether Y runs upward, and whether X runs leftward
+abbrev pub axesNumber : Bool → Bool → Bool → ℕ
+axesNumber false false false = 1  -- -Y +X
+axesNumber false false true = 2  -- -Y -X
+axesNumber false true true = 3  -- +Y -X
+axesNumber false true false = 4  -- +Y +X
+axesNumber true false false = 5  -- +X -Y
+axesNumber true false true = 6  -- -X -Y
+axesNumber true true true = 7  -- -X +Y
+axesNumber true true false = 8  -- +X +Y
+
+-- the orientation: its number is that of the Orientation tag of TIFF and EXIF
+unfoldable pub orientationOf : Orientation → ℕ
+orientationOf o = axesNumber (o .columns) (o .upward) (o .leftward)
+
+-- of a header or a file read: width, height, the count of bytes taken, colour, exposure and orientation
 abbrev pub headValues : Head → Values
 headValues head = record {
   width = head .width;
@@ -44,7 +61,7 @@ headValues head = record {
   taken = head .taken;
   colour = colourOf (head .colour);
   exposure = exposureOf (head .exposure);
-  orientation = 0;
+  orientation = orientationOf (head .orientation);
 }
 
 -- of a call that returns one number: it is a count, and stands where the count of bytes taken does

@@ -6,13 +6,14 @@ use stated::Colour;
 use stated::Exposure;
 use steps::amount::Amount;
 use steps::refusal::Refusal;
+use words::axes::Orientation;
 use writer::WriteAnswer;
 ghost use mathlib.Core.Path.{_≡_};
 ghost use Rattle.steps.specs.Answer.{done};
 ghost use Rattle.header.specs.Head as header;
 ghost use Rattle.reader.specs.Read as reader;
 ghost use Rattle.writer.specs.Write as writer;
-ghost use Rattle.numbers.specs.Numbers.{colourOf, patternOf, exposureOf, headValues, single, stopped, numbers, counted};
+ghost use Rattle.numbers.specs.Numbers.{colourOf, patternOf, exposureOf, orientationOf, headValues, single, stopped, numbers, counted};
 
 // That there is no such number: it passes 2^64 - 1.
 const NONE: u64 = 255;
@@ -45,14 +46,35 @@ fn exposure_of(exposure: Exposure) -> u64
     }
 }
 
+// The orientation as a number: that of the Orientation tag of TIFF and EXIF.
+fn orientation_of(o: Orientation) -> u64
+    ensures { λ r. ⌜ r ≡ orientationOf o ⌝ }
+{
+    if o.columns {
+        if o.upward {
+            if o.leftward { 7 } else { 8 }
+        } else {
+            if o.leftward { 6 } else { 5 }
+        }
+    } else {
+        if o.upward {
+            if o.leftward { 3 } else { 4 }
+        } else {
+            if o.leftward { 2 } else { 1 }
+        }
+    }
+}
+
 // What a header says, and the count of bytes taken.
 fn head_values(answer: &mut [u64; 8], head: Head)
     ensures { λ _. ⌜ now (answer .exit) ≡ numbers headValues (done head) ⌝ }
 {
     let kind = head.colour;
     let factor = head.exposure;
+    let lies = head.orientation;
     let colour = colour_of(kind);
     let exposure = exposure_of(factor);
+    let orientation = orientation_of(lies);
     *answer = [
         0,
         0,
@@ -61,7 +83,7 @@ fn head_values(answer: &mut [u64; 8], head: Head)
         head.taken as u64,
         colour,
         exposure,
-        0,
+        orientation,
     ];
 }
 

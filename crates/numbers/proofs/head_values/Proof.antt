@@ -10,8 +10,11 @@ colour-of-requires c κs = search needs
 exposure-of-requires : tie.Need-exposure-of-requires
 exposure-of-requires c κs = search needs
 
+orientation-of-requires : tie.Need-orientation-of-requires
+orientation-of-requires c κs = search needs
+
 returns : tie.Need-returns
 returns c = search values-put
 
 pub head-values-spec : {M : Type 1} → statement M
-head-values-spec = tie.close (tie.spec colour-of-requires exposure-of-requires returns)
+head-values-spec = tie.close (tie.spec colour-of-requires exposure-of-requires orientation-of-requires returns)
