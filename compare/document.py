@@ -9,15 +9,16 @@ from fractions import Fraction
 
 import list_document
 import list_header
+import list_orientation
 import reading
 from lines import file, hexed
 
 PART = 4000  # lines to a run of the program
 
 
-def line(data, w, h, out=0, store=0, limits=(65535, 65535)):
-    """A line for a file of w by h; `out` and `store` are how much is lent beyond what is needed, or how much less."""
-    return f"readd {limits[0]} {limits[1]} {max(0, 3 * w * h + out)} {max(0, 4 * w + store)} {hexed(data)}"
+def line(data, w, h, out=0, store=0, limits=(65535, 65535), long=None):
+    """A line for a file of w by h; `out` and `store` are how much is lent beyond what is needed, or how much less. A stored row is w long, unless it is told."""
+    return f"readd {limits[0]} {limits[1]} {max(0, 3 * w * h + out)} {max(0, 4 * (w if long is None else long) + store)} {hexed(data)}"
 
 
 # ---- every case of a kind
@@ -71,16 +72,52 @@ def every_beginning():
             yield line(file(w, h, rows[:n]), w, h)
 
 
+# ---- orientations
+
+
+AXES = [(a, b) for a in ("-Y", "+Y") for b in ("+X", "-X")]
+AXES += [(b, a) for a, b in AXES]
+
+
+def turned(axes, count, long, rows):
+    """A file of so many stored rows; its width and its height."""
+    first, second = axes
+    w, h = (count, long) if first[1] == "X" else (long, count)
+    return f"#?RGBE\n\n{first} {count} {second} {long}\n".encode() + bytes(rows), w, h
+
+
+def every_orientation():
+    """Good files of all eight, in many shapes, and every beginning of the small ones."""
+    chance = random.Random(2)
+    for axes in AXES:
+        for count, long in itertools.product((0, 1, 2, 3, 7, 8, 9), (0, 1, 2, 3, 7, 8, 9, 129)):
+            rows = sum((good_row(chance, long) for _ in range(count)), [])
+            yield line(*turned(axes, count, long, rows), long=long)
+            for n in range(len(rows)) if count in (2, 3) and long < 9 else ():
+                yield line(*turned(axes, count, long, rows[:n]), long=long)
+
+
 def wide_rows():
-    """Rows on both sides of 32,767, coded, by repeats, and with a repeat that passes their end."""
-    for w in (32767, 32768):
+    """Rows and columns on both sides of 32,767, coded, by repeats, and with a repeat that passes their end."""
+    for axes, w in itertools.product((AXES[0], AXES[-1]), (32767, 32768)):
         for more in (-1, 0, 1):
             n = w - 1 + more
-            yield line(file(w, 1, [9, 8, 7, 129, 1, 1, 1, n % 256, 1, 1, 1, n // 256, 5, 6, 7, 130]), w, 1)
-            yield line(file(w, 1, [2, 2, w // 256, w % 256, 1, 1, 1, n % 256, 1, 1, 1, n // 256, 5, 6, 7, 130]), w, 1)
+            for start in ([9, 8, 7, 129], [2, 2, w // 256, w % 256]):
+                yield line(*turned(axes, 1, w, start + [1, 1, 1, n % 256, 1, 1, 1, n // 256, 5, 6, 7, 130]), long=w)
         codes = [255, 130] * (w // 127) + [128 + w % 127, 130]
         for named in (w - 1, w, w + 1):
-            yield line(file(w, 1, [2, 2, named // 256, named % 256] + codes * 4), w, 1)
+            yield line(*turned(axes, 1, w, [2, 2, named // 256, named % 256] + codes * 4), long=w)
+
+
+def every_pair():
+    """All pairs of names of axes and of what is near them, at the head of a file."""
+    names = ("-Y", "+Y", "-X", "+X", "Y", "X", "-y", "+x", "", "-", "--Y", "+XX", "Z", "-Y+X")
+    for a, b in itertools.product(names, repeat=2):
+        for sizes in ((2, 3), (0, 1), (1, 0), (65535, 65535), (65536, 1), (1, 65536)):
+            data = f"#?RGBE\n\n{a} {sizes[0]} {b} {sizes[1]}\n".encode()
+            yield f"headd 65535 65535 {hexed(data)}"
+            if sizes[0] < 4:
+                yield line(data + bytes([9, 8, 7, 129] * 6), 2, 3, long=3)
 
 
 # ---- random ones
@@ -158,25 +195,28 @@ def damaged(chance, rows):
 
 
 def good_file(chance):
-    w = chance.choice(WIDTHS)
-    h = chance.randint(0, 1 + 40 // w)
-    rows = sum((good_row(chance, w) for _ in range(h)), [])
-    return w, h, rows
+    """Axes, of which half are -Y +X, how many rows are stored, how long each is, and their bytes."""
+    axes = chance.choice(AXES if chance.random() < 0.57 else AXES[:1])
+    long = chance.choice(WIDTHS)
+    count = chance.randint(int(axes[0][1] == "X"), 1 + 40 // long)
+    rows = sum((good_row(chance, long) for _ in range(count)), [])
+    return axes, count, long, rows
 
 
 def random_line(chance, damages):
     """A good file with so many damages, and now and then with bytes behind, odd buffers and odd limits."""
-    w, h, rows = good_file(chance)
+    axes, count, long, rows = good_file(chance)
     for _ in range(damages):
         rows = damaged(chance, rows)
     if chance.random() < 0.2:
         rows = rows + [chance.choice(BYTES) for _ in range(chance.randint(1, 9))]
+    data, w, h = turned(axes, count, long, rows)
     out, store, limits = 0, 0, (65535, 65535)
     if chance.random() < 0.1:
         out, store = chance.choice((-1, 0, 1, 7)), chance.choice((-1, 0, 1, 9))
     if chance.random() < 0.05:
-        limits = chance.choice(((w, h), (w - 1, h), (w, max(0, h - 1)), (2**64 - 1, 65536)))
-    return line(file(w, h, rows), w, h, out, store, limits)
+        limits = chance.choice(((w, h), (max(0, w - 1), h), (w, max(0, h - 1)), (h, w), (2**64 - 1, 65536)))
+    return line(data, w, h, out, store, limits, long)
 
 
 # ---- what headers say
@@ -256,12 +296,19 @@ def damaged_bytes(chance, data):
     return chance.choice((data[:at], data[:at] + data[at + 1:], data[:at] + byte + data[at:], data[:at] + byte + data[at + 1:]))
 
 
+def random_sizes(chance):
+    """A line of sizes: -Y and +X in either order, or any of the eight, and now and then none of them."""
+    a, b = chance.choice(AXES) if chance.random() < 0.3 else AXES[0]
+    if chance.random() < 0.95:
+        return chance.choice((f"{a} 3 {b} 4\n", f"{b} 4 {a} 3\n", f"\n{a} 0 {b} 0", f"{a} 65535 {b} 65535\n")).encode()
+    return chance.choice((f"{a} 3 {a} 4\n", f"{a} x {b} 1\n", f"{a} 65536 {b} 1\n", f"{a} 1 {b} 65536\n", f"{a[1]} 1 {b} 1\n", "")).encode()
+
+
 def random_header(chance):
     """Up to six lines, and now and then a wrong first line, odd sizes, a byte of all that changed, lost or put in, or the end cut off."""
     lines = [random_header_line(chance, chance.choice((0, 0, 0.1))) for _ in range(chance.randint(0, 6))]
     first = b"#?RGBE\n" if chance.random() < 0.99 else b"#?RGBX\n"
-    sizes = chance.choice((b"-Y 3 +X 4\n", b"+X 4 -Y 3\n", b"\n-Y 0 +X 0", b"-Y 65535 +X 65535\n")) if chance.random() < 0.95 else chance.choice((b"-X 3 +Y 4\n", b"-Y x +X 1\n", b"-Y 65536 +X 1\n", b"-Y 1 +X 65536\n", b""))
-    data = first + b"".join(lines) + b"\n" + sizes
+    data = first + b"".join(lines) + b"\n" + random_sizes(chance)
     if chance.random() < 0.2:
         data = damaged_bytes(chance, data)
     return f"headd 65535 65535 {hexed(data)}"
@@ -283,12 +330,15 @@ def kinds(seed, count):
     chance = random.Random(seed)
     yield "the fixed list's", [line for line, _ in list_document.by_hand()] + list(list_document.by_reading())
     yield "the fixed list's headers", [line for line, _ in list_header.by_hand() if line.startswith(("readd ", "headd "))] + list(list_header.by_reading())
+    yield "the fixed list's orientations", [line for line, _ in list_orientation.by_hand() if line.startswith(("readd ", "headd "))] + list(list_orientation.by_reading())
     yield "every mantissa and exponent", every_value()
     yield "flat rows, every short list", every_flat_row()
     yield "marks, every four bytes", every_mark()
     yield "channel codes, every short list", every_channel()
     yield "every beginning of good files", every_beginning()
-    yield "wide rows", wide_rows()
+    yield "wide rows and columns", wide_rows()
+    yield "orientations, all eight in many shapes", every_orientation()
+    yield "pairs of axes, every one and what is near", every_pair()
     yield "exposures, every short text", every_text()
     yield "exposures, every power", every_power()
     yield "good files, random", (random_line(chance, 0) for _ in range(count // 5))

@@ -1,4 +1,4 @@
-"""The replay program's fixed list: cases with answers by the rules, cases of the document reading and of headers by it, then cases that the unchanged Rust answers.
+"""The replay program's fixed list: cases with answers by the rules, cases of the document reading, of headers and of orientations by it, then cases that the unchanged Rust answers.
 
 Use: list.py ORACLE      (from the repository's top; compare/list builds the oracle first)
 
@@ -9,6 +9,7 @@ import sys
 
 import list_document
 import list_header
+import list_orientation
 import reading
 from lines import file, hexed, lent, lent_samples, lower_edges, middles
 
@@ -450,7 +451,7 @@ def main():
         pairs += dict.fromkeys(part())
     by_rules = len(pairs)
     counts = []
-    for part in (list_document, list_header):
+    for part in (list_document, list_header, list_orientation):
         before, known = len(pairs), dict(pairs)
         pairs += [pair for pair in dict(part.by_hand()).items() if pair[0] not in known]
         known, hand = dict(pairs), len(pairs)
@@ -471,7 +472,7 @@ def main():
     with open("crates/replay/stdout", "wb") as f:
         f.write("".join(answer + "\n" for _, answer in pairs).encode())
     print(f"list: {by_rules + 1} lines by the rules, {len(lines)} by the Rust")
-    for name, (hand, rest) in zip(("the document reading", "headers by it"), counts):
+    for name, (hand, rest) in zip(("the document reading", "headers by it", "orientations"), counts):
         print(f"list: of {name} {hand} lines by hand, {rest} by compare/reading.py")
 
 

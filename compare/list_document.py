@@ -132,8 +132,6 @@ def memory():
     yield f"readd 9 9 8 6 {sound}", f"0 0 1 2 26 {middles([P, Q])}{lent_samples(8)[48:]} {hexed(Q + [4, 5])}"
     yield f"readd 9 9 0 0 {hexed(file(0, 1, run(5)))}", "7 0 0 0 0 - -"
     yield f"readd 9 9 0 4 {hexed(file(1, 0, run(5)))}", "0 0 1 0 18 - 00000000"
-    # rows of w in both orders of the axes
-    yield f"readd 9 9 6 8 {hexed(b'#?RGBE' + bytes([10, 10]) + b'+X 2 -Y 1' + bytes([10] + P + Q))}", f"0 0 2 1 26 {middles([P, Q])} {hexed(P + Q)}"
 
 
 def values():

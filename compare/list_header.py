@@ -18,11 +18,11 @@ def head(data, answer, limits="9 9"):
 def told(lines, kind="none", exposure="none"):
     """A header with these lines, which say a kind of colour and an exposure."""
     data = b"#?RGBE\n" + lines + SIZES
-    return head(data, f"0 0 2 1 {len(data)} {kind} {exposure}")
+    return head(data, f"0 0 2 1 {len(data)} {kind} {exposure} -Y+X")
 
 
 def refused(number, lines):
-    return head(b"#?RGBE\n" + lines + SIZES, f"{number} 0 0 0 0 none none")
+    return head(b"#?RGBE\n" + lines + SIZES, f"{number} 0 0 0 0 none none none")
 
 
 def factors(*texts):
@@ -177,12 +177,12 @@ def ends():
         # a carriage return first is not blank: the line behind it counts
         (15, b"\r\nFORMAT=x\n" + SIZES), (16, b"\r\nEXPOSURE=x\n" + SIZES), (16, b" \nEXPOSURE=x\n" + SIZES),
     ):  # fmt: skip
-        yield head(b"#?RGBE\n" + rest, f"{number} 0 0 0 0 none none")
+        yield head(b"#?RGBE\n" + rest, f"{number} 0 0 0 0 none none none")
     yield told(b"\r\nEXPOSURE=2\r\n\r\nFORMAT=32-bit_rle_xyze\r\n", "xyze", "40000000")
     # an extra blank line before the sizes does no harm; the other axes; what follows the sizes
-    for tail, size in ((b"\n\n-Y 1 +X 2\n", 0), (b"\n+X 2 -Y 1\n", 0), (SIZES + b"FORMAT=x\nEXPOSURE=x\n", 20), (b"\n-Y 1 +X 2", 0)):
+    for tail, size, axes in ((b"\n\n-Y 1 +X 2\n", 0, "-Y+X"), (b"\n+X 2 -Y 1\n", 0, "+X-Y"), (SIZES + b"FORMAT=x\nEXPOSURE=x\n", 20, "-Y+X"), (b"\n-Y 1 +X 2", 0, "-Y+X")):
         data = b"#?RADIANCE\nEXPOSURE=.5\nFORMAT=32-bit_rle_rgbe\n" + tail
-        yield head(data, f"0 0 2 1 {len(data) - size} rgbe 3f000000")
+        yield head(data, f"0 0 2 1 {len(data) - size} rgbe 3f000000 {axes}")
 
 
 def orders():
@@ -190,23 +190,23 @@ def orders():
     a, b = b"FORMAT=x\n", b"EXPOSURE=x\n"
     for first in (b"#?RGBX\n", b"\n", b"", b"FORMAT=x\n", b"#?RGBE", b"#?RGBE FORMAT=x\n"):
         for lines in (a, b, a + b):
-            yield head(first + lines + SIZES, "1 0 0 0 0 none none")
+            yield head(first + lines + SIZES, "1 0 0 0 0 none none none")
     yield refused(15, a + b)
     yield refused(16, b + a)
     yield refused(15, b"EXPOSURE=2\n" + a + b)
     yield refused(16, b"FORMAT=32-bit_rle_xyze\n" + b + a)
     yield refused(16, factors(*[b"1e10"] * 4) + a)
     yield refused(15, factors(*[b"1e10"] * 3) + a + factors(b"1e10"))
-    for sizes, number in ((b"\n-Y 1 -X 2\n", 2), (b"\n+Y 1 +X 2\n", 2), (b"\n-Y x +X 2\n", 3), (b"\n-Y 1 +X 18446744073709551616\n", 3), (b"\n-Y 10 +X 2\n", 4), (b"\n-Y 10 +X 10\n", 4), (b"\n-Y 1 +X 10\n", 5)):
+    for sizes, number in ((b"\n-Y 1 +Y 2\n", 2), (b"\n+X 1 -X 2\n", 2), (b"\n-Y x +X 2\n", 3), (b"\n-Y 1 +X 18446744073709551616\n", 3), (b"\n-Y 10 +X 2\n", 4), (b"\n-Y 10 +X 10\n", 4), (b"\n-Y 1 +X 10\n", 5)):
         for lines, found in ((b"", number), (a, 15), (b, 16), (b"EXPOSURE=0\n", 16), (b"FORMAT=32-bit_rle_xyze\nEXPOSURE=2\n", number)):
-            yield head(b"#?RGBE\n" + lines + sizes, f"{found} 0 0 0 0 none none")
+            yield head(b"#?RGBE\n" + lines + sizes, f"{found} 0 0 0 0 none none none")
     # limits above 65,535 count as 65,535; height 0 and width 0 are none of the header's refusals
     for limit in (65535, 65536, 18446744073709551615):
-        for h, w, answer in ((65535, 65535, "0 0 65535 65535 {n} xyze 40000000"), (65536, 65535, "4 0 0 0 0 none none"), (65535, 65536, "5 0 0 0 0 none none")):
+        for h, w, answer in ((65535, 65535, "0 0 65535 65535 {n} xyze 40000000 -Y+X"), (65536, 65535, "4 0 0 0 0 none none none"), (65535, 65536, "5 0 0 0 0 none none none")):
             data = b"#?RGBE\nEXPOSURE=2\nFORMAT=32-bit_rle_xyze\n\n-Y %d +X %d\n" % (h, w)
             yield head(data, answer.format(n=len(data)), f"{limit} {limit}")
     for h, w in ((0, 3), (3, 0), (0, 0)):
-        yield head(b"#?RGBE\nEXPOSURE=2\n\n-Y %d +X %d\n" % (h, w), f"0 0 {w} {h} 29 none 40000000")
+        yield head(b"#?RGBE\nEXPOSURE=2\n\n-Y %d +X %d\n" % (h, w), f"0 0 {w} {h} 29 none 40000000 -Y+X")
 
 
 def files():

@@ -127,39 +127,48 @@ def size(field):
     return int(digits)
 
 
-def sizes(source):
-    """Width and height; 2 or 3."""
+EIGHT = [(f"{a}Y".encode(), f"{b}X".encode()) for a in "-+" for b in "+-"]
+EIGHT += [(b, a) for a, b in EIGHT]
+
+
+def sizes(source, known=EIGHT):
+    """Width, height and the two axes as they are named, which are to be known ones; 2 or 3."""
     fields = [source.until(end).strip(BLANKS) for end in (b" ", b" ", b" ", b"\n")]
     axes = fields[0], fields[2]
-    if axes not in ((b"-Y", b"+X"), (b"+X", b"-Y")):
+    if axes not in known:
         raise Refused(2)
     first, second = size(fields[1]), size(fields[3])
-    return (second, first) if axes[0] == b"-Y" else (first, second)
+    return (first, second, axes) if axes[0].endswith(b"X") else (second, first, axes)
 
 
 def limited_header(source, widest, highest):
-    """Width, height, kind of colour and exposure; 1, 15 or 16, 2, 3, 4 or 5."""
+    """Width, height, axes, kind of colour and exposure; 1, 15 or 16, 2, 3, 4 or 5."""
     first_line(source)
     kind, total = said(further_lines(source))
-    width, height = sizes(source)
+    width, height, axes = sizes(source)
     if height > min(highest, LARGEST):
         raise Refused(4)
     if width > min(widest, LARGEST):
         raise Refused(5)
-    return width, height, kind, total
+    return width, height, axes, kind, total
+
+
+def stored(width, height, axes):
+    """How many rows are stored, and how many pixels each has: the first axis named runs from row to row."""
+    return (width, height) if axes[0].endswith(b"X") else (height, width)
 
 
 def checked_header(source, widest, highest, samples, places):
-    """Width and height, where the limits, the output and the row store allow them."""
-    width, height, *_ = limited_header(source, widest, highest)
+    """Width, height and axes, where the limits, the output and the row store allow them."""
+    width, height, axes, *_ = limited_header(source, widest, highest)
     for number, failed in (
         (6, samples < 3 * width * height),
         (7, width == 0),
-        (8, places < 4 * width),
+        (8, places < 4 * stored(width, height, axes)[1]),
     ):
         if failed:
             raise Refused(number)
-    return width, height
+    return width, height, axes
 
 
 # ---- rows
@@ -221,37 +230,47 @@ def sample(mantissa, exponent):
 PATTERNS = [[struct.pack(">f", sample(m, e)) for m in range(256)] for e in range(256)]
 
 
-def rows(source, width, height, out, store):
-    """The rows one after another into the output: the number of rows that were read, and the refusal or 0."""
-    store[:4 * width] = bytes(4 * width)
-    for y in range(height):
+def pixel_at(width, height, axes, k, i):
+    """The place in the picture, from the top row and the left pixel on, of pixel i of the stored row k."""
+    first, second = axes
+    steps = {first: k, second: i}
+    x = steps[b"+X"] if b"+X" in steps else width - 1 - steps[b"-X"]
+    y = steps[b"-Y"] if b"-Y" in steps else height - 1 - steps[b"+Y"]
+    return y * width + x
+
+
+def rows(source, width, height, axes, out, store):
+    """The stored rows one after another into the output: how many were read, and the refusal or 0."""
+    count, long = stored(width, height, axes)
+    store[:4 * long] = bytes(4 * long)
+    for k in range(count):
         try:
-            row(source, store, width)
+            row(source, store, long)
         except Refused as refused:
-            return y, refused.number
-        for x in range(width):
-            r, g, b, e = store[4 * x:4 * x + 4]
-            place = 3 * (y * width + x)
+            return k, refused.number
+        for i in range(long):
+            r, g, b, e = store[4 * i:4 * i + 4]
+            place = 3 * pixel_at(width, height, axes, k, i)
             out[place:place + 3] = PATTERNS[e][r], PATTERNS[e][g], PATTERNS[e][b]
-    return height, 0
+    return count, 0
 
 
 def read(data, widest, highest, out, store):
     """Number, place, width, height and bytes taken. `out` is a list of bit patterns and `store` a bytearray, both lent."""
     source = Source(data)
     try:
-        width, height = checked_header(source, widest, highest, len(out), len(store))
+        width, height, axes = checked_header(source, widest, highest, len(out), len(store))
     except Refused as refused:
         return refused.number, 0, 0, 0, 0
-    done, number = rows(source, width, height, out, store)
+    done, number = rows(source, width, height, axes, out, store)
     return (number, done, 0, 0, 0) if number else (0, 0, width, height, source.place)
 
 
 def picture(data, limit):
     """Width, height and the samples' bit patterns, read with room enough under a limit for both sizes; or a refusal is raised."""
-    width, height = checked_header(Source(data), limit, limit, 3 * limit**2, 4 * limit)
+    width, height, axes = checked_header(Source(data), limit, limit, 3 * limit**2, 4 * limit)
     out = [b""] * (3 * width * height)
-    number, row, *_ = read(data, limit, limit, out, bytearray(4 * width))
+    number, row, *_ = read(data, limit, limit, out, bytearray(4 * stored(width, height, axes)[1]))
     if number:
         raise Refused(number, row)
     return width, height, b"".join(out)
@@ -281,10 +300,10 @@ def read_answer(widest, highest, samples, places, data):
 def head_answer(widest, highest, data):
     source = Source(bytes_of(data))
     try:
-        width, height, kind, total = limited_header(source, widest, highest)
+        width, height, axes, kind, total = limited_header(source, widest, highest)
     except Refused as refused:
-        return f"{refused.number} 0 0 0 0 none none"
-    return f"0 0 {width} {height} {source.place} {kind or 'none'} {'none' if total is None else format(total, '08x')}"
+        return f"{refused.number} 0 0 0 0 none none none"
+    return f"0 0 {width} {height} {source.place} {kind or 'none'} {'none' if total is None else format(total, '08x')} {b''.join(axes).decode()}"
 
 
 def answer(line):

@@ -75,7 +75,7 @@ def read(data, limit, old_runs):
     first_line(source)
     for _ in further_lines(source):
         pass
-    width, height = sizes(source)
+    width, height, _ = sizes(source, [(b"-Y", b"+X"), (b"+X", b"-Y")])
     if height > limit or width > limit:
         raise Refused(4 if height > limit else 5)
     if width == 0:

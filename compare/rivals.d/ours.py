@@ -31,7 +31,8 @@ def called(path):
     if head[0] != "0":
         return head, None
     width, height = int(head[2]), int(head[3])
-    answer = ask(f"{READING} {LIMIT} {LIMIT} {3 * width * height} {4 * width} " + data.hex())
+    long = height if head[7:] and head[7][1] == "X" else width  # of a stored row, which is a column where X is named first
+    answer = ask(f"{READING} {LIMIT} {LIMIT} {3 * width * height} {4 * long} " + data.hex())
     return answer, numpy.frombuffer(bytes.fromhex(answer[5]), ">f4")
 
 

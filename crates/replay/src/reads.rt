@@ -10,6 +10,7 @@ use reader::ReadAnswer;
 use stated::Colour;
 use stated::Exposure;
 use steps::Reading;
+use words::axes::Orientation;
 ghost use Prim.Native.Nat.{_≤_};
 
 // ` W H TAKEN`.
@@ -66,23 +67,70 @@ fn put_exposure(page: &mut [u8; 65536], put: usize, exposure: Exposure) -> usize
     }
 }
 
-// ` KIND EXPOSURE`, by the document reading alone.
-fn put_said(
-    reading: Reading,
-    colour: Colour,
-    exposure: Exposure,
-    page: &mut [u8; 65536],
-    put: usize,
-) -> usize
+// `-Y` or `+Y`.
+fn put_y(page: &mut [u8; 65536], put: usize, upward: bool) -> usize
+    requires { ⌜ put ≤ 65536 ⌝ }
+    ensures { λ r. ⌜ r ≤ 65536 ⌝ }
+{
+    if upward {
+        print::text(page, put, b"+Y")
+    } else {
+        print::text(page, put, b"-Y")
+    }
+}
+
+// `+X` or `-X`.
+fn put_x(page: &mut [u8; 65536], put: usize, leftward: bool) -> usize
+    requires { ⌜ put ≤ 65536 ⌝ }
+    ensures { λ r. ⌜ r ≤ 65536 ⌝ }
+{
+    if leftward {
+        print::text(page, put, b"-X")
+    } else {
+        print::text(page, put, b"+X")
+    }
+}
+
+// ` ORIENT`: both axes, in the order in which they are named.
+fn put_orientation(page: &mut [u8; 65536], put: usize, o: Orientation) -> usize
+    requires { ⌜ put ≤ 65536 ⌝ }
+    ensures { λ r. ⌜ r ≤ 65536 ⌝ }
+{
+    let p = print::byte(page, put, 32);
+    if o.columns {
+        let q = put_x(page, p, o.leftward);
+        return put_y(page, q, o.upward);
+    }
+    let q = put_y(page, p, o.upward);
+    put_x(page, q, o.leftward)
+}
+
+// ` KIND EXPOSURE ORIENT` of a header, by the document reading alone.
+fn put_said(reading: Reading, head: Head, page: &mut [u8; 65536], put: usize) -> usize
     requires { ⌜ put ≤ 65536 ⌝ }
     ensures { λ r. ⌜ r ≤ 65536 ⌝ }
 {
     match reading {
         Reading::Crate => put,
         Reading::Document => {
+            let colour = head.colour;
+            let exposure = head.exposure;
+            let orientation = head.orientation;
             let p = put_colour(page, put, colour);
-            put_exposure(page, p, exposure)
+            let q = put_exposure(page, p, exposure);
+            put_orientation(page, q, orientation)
         }
+    }
+}
+
+// The same of a refusal.
+fn put_none(reading: Reading, page: &mut [u8; 65536], put: usize) -> usize
+    requires { ⌜ put ≤ 65536 ⌝ }
+    ensures { λ r. ⌜ r ≤ 65536 ⌝ }
+{
+    match reading {
+        Reading::Crate => put,
+        Reading::Document => print::text(page, put, b" none none none"),
     }
 }
 
@@ -101,14 +149,12 @@ fn answer_header(
     let answer = header::read(reading, bytes, widest, highest);
     match answer {
         HeadAnswer::Read(head) => {
-            let colour = head.colour;
-            let exposure = head.exposure;
             let p = put_head(page, put, head);
-            put_said(reading, colour, exposure, page, p)
+            put_said(reading, head, page, p)
         }
         HeadAnswer::Refused(refusal) => {
             let p = put_refused(page, put, refusal.number, refusal.place);
-            put_said(reading, Colour::NotStated, Exposure::NotStated, page, p)
+            put_none(reading, page, p)
         }
     }
 }
