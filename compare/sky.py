@@ -136,13 +136,18 @@ def write_row(store, width):
     return bytes([2, 2, width // 256, width % 256]) + b"".join(code(store[c : 4 * width : 4]) for c in range(4))
 
 
-def header(width, height):
-    return b"#?RADIANCE\nSOFTWARE=zune-hdr\nFORMAT=32-bit_rle_rgbe\n\n-Y %d +X %d\n" % (height, width)
+def sizes(axes, width, height):
+    """The line of sizes, with these axes."""
+    return b"%s %d %s %d\n" % (axes[:2], width if axes[1:2] == b"X" else height, axes[2:], height if axes[1:2] == b"X" else width)
 
 
-def worst(width, height):
-    """The most bytes that the rows take."""
-    return height * (4 * width if width < 8 or width > 32767 else 4 + 4 * (width + (width + 127) // 128))
+def header(width, height, axes=b"-Y+X"):
+    return b"#?RADIANCE\nSOFTWARE=zune-hdr\nFORMAT=32-bit_rle_rgbe\n\n" + sizes(axes, width, height)
+
+
+def worst(long, count):
+    """The most bytes that rows take."""
+    return count * (4 * long if long < 8 or long > 32767 else 4 + 4 * (long + (long + 127) // 128))
 
 
 # ---- RULES 3: what the lines of a header state, by the document; with --crate nothing
@@ -190,9 +195,34 @@ def stated(reading, head):
     return colour, exposure
 
 
-def columns(reading, head, width, height):
-    """Whether the line of sizes names the width first, so that the document has columns of another length where rows are written."""
-    return reading == DOCUMENT and width != height and head.split(b"\n\n", 1)[1].startswith(b"+X")
+EIGHT = {  # the orientations of the document: the first axis named runs from row to row, the second along a row
+    b"-Y+X": "-Y +X: rows from the top, pixels from the left",
+    b"-Y-X": "-Y -X: rows from the top, pixels from the right",
+    b"+Y+X": "+Y +X: rows from the bottom, pixels from the left",
+    b"+Y-X": "+Y -X: rows from the bottom, pixels from the right",
+    b"+X-Y": "+X -Y: columns from the left, pixels from the top",
+    b"-X-Y": "-X -Y: columns from the right, pixels from the top",
+    b"+X+Y": "+X +Y: columns from the left, pixels from the bottom",
+    b"-X+Y": "-X +Y: columns from the right, pixels from the bottom",
+}
+
+
+def axes_of(head):
+    fields = head.split(b"\n\n", 1)[1].split(b" ")
+    return fields[0] + fields[2]
+
+
+def stored(reading, head, width, height):
+    """How many pixels a stored row has, and how many stored rows there are. The crate has two orientations, and reads both alike."""
+    axes = axes_of(head)
+    if axes not in (EIGHT if reading == DOCUMENT else (b"-Y+X", b"+X-Y")):
+        raise Fault(2)
+    return (height, width) if reading == DOCUMENT and axes[1:2] == b"X" else (width, height)
+
+
+def turned(reading, head):
+    """The orientation, as `info` says it."""
+    return EIGHT[axes_of(head)] if reading == DOCUMENT else "not told with --crate: rows are read from the top, pixels from the left"
 
 
 # ---- Light, as a reading shows it
@@ -280,11 +310,11 @@ def say_stated(reading, head):
 
 def told(name, head, width, height, taken, after, survey):
     """The lines of `info` for a file that is whole."""
-    length = "it is not: the line of sizes starts with +X" if columns(survey.reading, head, width, height) else len(head) + survey.length
     return [
         name,
         "  width            %d" % width,
         "  height           %d" % height,
+        "  orientation      " + turned(survey.reading, head),
         *say_stated(survey.reading, head),
         "  bytes taken      %d" % taken,
         "  bytes after      %d" % after,
@@ -292,31 +322,33 @@ def told(name, head, width, height, taken, after, survey):
         say_light("brightest pixel", survey.brightest, height),
         "  black pixels     %d" % survey.black,
         "  outside 97-159   %d" % survey.outside,
-        "  if written anew  %s" % length,
-        "  at worst         %d" % (len(head) + worst(width, height)),
+        "  if written anew  %d" % (len(head) + survey.length),
+        "  at worst         %d" % (len(head) + worst(*stored(survey.reading, head, width, height))),
     ]
 
 
-NAMES = ["status", "number", "row", "width", "height", "darkest pixel", "brightest pixel", "black pixels", "outside 97-159", "bytes after", "colour", "exposure", "file"]
+NAMES = ["status", "number", "row", "width", "height", "darkest pixel", "brightest pixel", "black pixels", "outside 97-159", "bytes after", "colour", "exposure", "orientation", "file"]
 
 
 def whole(lines):
     """The line of `info --brief`, from the lines of `info`."""
     found = {line[2:19].strip(): line[19:].split(" ")[0].replace("none,", "-").replace("not", "-") for line in lines[1:]}
+    found["orientation"] = "-" if found["orientation"] == "-" else lines[3][19:24].replace(" ", "")
     return "\t".join(["whole", "-", "-"] + [found[name] for name in NAMES[3:-1]] + [lines[0]])
 
 
-def refused(name, number="-", row="-", width="-", height="-", colour="-", exposure="-"):
+def refused(name, number="-", row="-", width="-", height="-", colour="-", exposure="-", axes="-"):
     """The line of `info --brief` for a file that is refused."""
-    return "\t".join(map(str, ["refused", number, row, width, height] + ["-"] * 5 + [colour, exposure, name]))
+    return "\t".join(map(str, ["refused", number, row, width, height] + ["-"] * 5 + [colour, exposure, axes, name]))
 
 
 def stops(reading, name, file, width, height, start):
     """The lines of `stops` for a whole file: rows by the reading, and light by the document, (2m + 1) 2^(E - 137)."""
-    store, at, counts, black = bytearray(4 * width), start, {}, 0
-    for _ in range(height):
-        at = read_row(reading, file, at, store, width)
-        for q in (store[i : i + 4] for i in range(0, 4 * width, 4)):
+    long, count = stored(reading, file[:start], width, height)
+    store, at, counts, black = bytearray(4 * long), start, {}, 0
+    for _ in range(count):
+        at = read_row(reading, file, at, store, long)
+        for q in (store[i : i + 4] for i in range(0, 4 * long, 4)):
             if q[3] == 0:
                 black += 1
             else:
@@ -334,13 +366,17 @@ def stops(reading, name, file, width, height, start):
 
 def answer(name, file, width, height, start, reading=DOCUMENT):
     """The lines of `info` for a file whose header takes `start` bytes, read by the rules. A refusal's sentence is left open."""
-    store, at, survey = bytearray(4 * width), start, Survey(reading)
-    for row in range(height):
+    try:
+        long, count = stored(reading, file[:start], width, height)
+    except Fault as fault:
+        return [name, "  refused          number %d: *" % fault.args]
+    store, at, survey = bytearray(4 * long), start, Survey(reading)
+    for row in range(count):
         try:
-            at = read_row(reading, file, at, store, width)
+            at = read_row(reading, file, at, store, long)
         except Fault as fault:
             return [name, "  refused          number %d in row %d (the first row is 0): *" % (*fault.args, row)]
-        survey.row(store, width)
+        survey.row(store, long)
     return told(name, file[:start], width, height, at, len(file) - at, survey)
 
 
@@ -398,6 +434,8 @@ def there(name):
 
 # ---- The cases
 
+TWICE = {}  # files whose copies are copied: their names, widths, heights and the lengths of their headers
+
 
 def pixels(rng, width, kind):
     if kind == "smooth":
@@ -428,7 +466,7 @@ def large(kind):
     lines = told(kind + ".hdr", header(width, height), width, height, len(data), 0, survey)
     expect(kind + " info", lines, 0, "info", kind + ".hdr")
     middle = time.monotonic()
-    expect(kind + " copy", lines[:3] + lines[5:7] + ["  written to       copy.hdr", "  bytes written    %d" % len(data)], 0, "copy", kind + ".hdr", "copy.hdr", "--force")
+    expect(kind + " copy", lines[:3] + lines[6:8] + ["  written to       copy.hdr", "  bytes written    %d" % len(data)], 0, "copy", kind + ".hdr", "copy.hdr", "--force")
     check(kind + " copied bytes", load("copy.hdr") == data)
     end = time.monotonic()
     print("  %s, %d bytes: info %.1f s, copy %.1f s" % (kind, len(data), middle - start, end - middle))
@@ -464,27 +502,27 @@ def wide():
 
 
 def cut():
-    """A file cut off at every byte, with flat rows, coded ones and one after a pixel 2, 3."""
-    width, height, rng = 9, 3, random.Random(3)
-    start = b"#?RGBE\nEXPOSURE=2\n\n+X 9 -Y 3\n"
-    first = pixels(rng, width, "noisy")
-    file = start + write_row(first, width) + b"\2\3\4\5" + pixels(rng, 8, "noisy") + b"\2\2\0\11" + b"\211\1\0\211\2\4abcd\205e\211\200"
-    names = []
-    keep("uncut.hdr", file)
-    for end in range(len(start), len(file) + 1):
-        names.append("cut%d.hdr" % end)
-        keep(names[-1], file[:end])
-    for reading in (DOCUMENT, CRATE):
-        want = [line for name in names for line in answer(name, load(name), width, height, len(start), reading)]
-        expect(" ".join(("cut at every byte", *reading)), want, 1, "info", *reading, *names)
+    """A file cut off at every byte, with flat rows, coded ones and one after a pixel 2, 3: three stored rows of nine, in each orientation."""
+    rng = random.Random(3)
+    rows = write_row(pixels(rng, 9, "noisy"), 9) + b"\2\3\4\5" + pixels(rng, 8, "noisy") + b"\2\2\0\11" + b"\211\1\0\211\2\4abcd\205e\211\200"
+    for axes in EIGHT:
+        width, height = (3, 9) if axes[1:2] == b"X" else (9, 3)
+        start = b"#?RGBE\nEXPOSURE=2\n\n" + sizes(axes, width, height)
+        names = ["cut%s%d.hdr" % (axes.decode(), end) for end in range(len(rows) + 1)]
+        for end, name in enumerate(names):
+            keep(name, start + rows[:end])
+        TWICE[names[-1]] = (width, height, len(start))
+        for reading in (DOCUMENT, CRATE):
+            want = [line for name in names for line in answer(name, load(name), width, height, len(start), reading)]
+            expect(" ".join(("cut at every byte", axes.decode(), *reading)), want, 1, "info", *reading, *names)
 
 
 def headers():
     table = {
         "empty": (b"", 1),
         "jpeg": (b"\xff\xd8\xff\xe0" + b"x" * 3000000, 1),
-        "axes": (b"#?RADIANCE\n\n+Y 2 +X 2\n" + b"\0" * 16, 2),
-        "axes-long": (b"#?RADIANCE\n\n+Y 2 +X 2\n" + b"\0" * 3000000, 2),
+        "axes": (b"#?RADIANCE\n\n+Y 2 -Y 2\n" + b"\0" * 16, 2),
+        "axes-long": (b"#?RADIANCE\n\n+Y 2 -Y 2\n" + b"\0" * 3000000, 2),
         "size": (b"#?RADIANCE\n\n-Y two +X 2\n", 3),
         "high": (b"#?RADIANCE\n\n-Y 65536 +X 2\n", 4),
         "wide5": (b"#?RADIANCE\n\n-Y 2 +X 65536\n", 5),
@@ -679,7 +717,7 @@ def misled():
         ("digits", b"#?RADIANCE\n\n-Y 1 +X 12345678901234567890123\n", 3, "the height or the width is too large: 65535 is the most"),
         ("digits-high", b"#?RADIANCE\n\n-Y 18446744073709551616 +X 1\n", 3, "the height or the width is too large: 65535 is the most"),
         ("no-digits", b"#?RADIANCE\n\n-Y 1e99999999999999999999 +X 1\n", 3, "the height or the width is no number"),
-        ("no-returns", b"#?RADIANCE\n\n+Y 1 +X 1\n\n\r\n", 2, "the line of sizes is neither -Y height +X width nor +X width -Y height"),
+        ("no-returns", b"#?RADIANCE\n\n+Y 1 -Y 1\n\n\r\n", 2, "the line of sizes has to name X and Y, each with a sign and then its size, *"),
     ):
         keep(name, data)
         expect("words of " + name, [name, "  refused          number %d: %s" % (number, words)], 1, "info", name)
@@ -752,7 +790,7 @@ def tables():
     want = ["\t".join(NAMES)]
     want += [whole(answer(name, load(name), w, h, len(header(w, h)))) for name, w, h in (("small.hdr", 9, 2), ("wide.hdr", 40000, 3), ("black.hdr", 8, 1), ("saved-dark.hdr", 3, 2))]
     want += [whole(answer("none.hdr", load("none.hdr"), 3, 0, 22)), refused("gone.hdr"), refused("axes", 2), refused("digits", 3), refused("returns", 1)]
-    want += [refused("returns-long"), refused("over", "-", 20, 8, 40, "rgbe"), refused("torn.hdr", 9, 0, 9, 2, "rgbe")]
+    want += [refused("returns-long"), refused("over", "-", 20, 8, 40, "rgbe", axes="-Y+X"), refused("torn.hdr", 9, 0, 9, 2, "rgbe", axes="-Y+X")]
     got, status, said = run("info", "--brief", *(line.split("\t")[-1] for line in want[1:]))
     check("a table", got == want + [""] and status == 1)
     check("how many", said == "sky: 5 whole, 7 refused\n")
@@ -806,25 +844,24 @@ def broken():
     check("but as the crate shows it", load("mark2.hdr") == header(8, 1) + b"\2\2\0\10" + b"\210\1" * 4)
 
 
-SCATTERED = []  # the names, widths and heights of these files
-
-
 def scattered():
-    """Small files of bytes that often mean something, by both readings."""
-    rng, names = random.Random(23), []
+    """Small files of bytes that often mean something, by both readings; every second one has one of the eight orientations."""
+    rng, files = random.Random(23), {}
     for k in range(400):
-        width, height = rng.choice((1, 3, 7, 8, 9, 20)), rng.randrange(1, 4)
-        bytes_of = (0, 1, 1, 1, 2, 2, width, 128, 129, 130, 128 + width, rng.randrange(256))
+        long, count = rng.choice((1, 3, 7, 8, 9, 20)), rng.randrange(1, 4)
+        bytes_of = (0, 1, 1, 1, 2, 2, long, 128, 129, 130, 128 + long, rng.randrange(256))
         rows = b"".join(
-            rng.choice((b"", b"\2\2\0" + bytes([width]), pixels(rng, width, "noisy"))) + bytes(rng.choice(bytes_of) for _ in range(rng.randrange(5 * width)))
-            for _ in range(height)
+            rng.choice((b"", b"\2\2\0" + bytes([long]), pixels(rng, long, "noisy"))) + bytes(rng.choice(bytes_of) for _ in range(rng.randrange(5 * long)))
+            for _ in range(count)
         )
-        names.append(("scattered%d" % k, width, height))
-        keep(names[-1][0], header(width, height) + rows)
-    SCATTERED.extend(names)
+        axes = rng.choice(list(EIGHT)) if k % 2 else b"-Y+X"
+        width, height = (count, long) if axes[1:2] == b"X" else (long, count)
+        files["scattered%d" % k] = (width, height, len(header(width, height)))
+        keep("scattered%d" % k, header(width, height, axes) + rows)
+    TWICE.update(list(files.items())[:60])
     for reading in (DOCUMENT, CRATE):
-        want = [line for name, w, h in names for line in answer(name, load(name), w, h, len(header(w, h)), reading)]
-        expect(" ".join(("scattered bytes", *reading)), want, 1, "info", *reading, *(name for name, _, _ in names))
+        want = [line for name, (w, h, start) in files.items() for line in answer(name, load(name), w, h, start, reading)]
+        expect(" ".join(("scattered bytes", *reading)), want, 1, "info", *reading, *files)
         check(" ".join(("of which some are whole", *reading)), 10 < sum(line.startswith("  at worst") for line in want) < 390)
 
 
@@ -845,7 +882,7 @@ def lights():
         ("light-255-255", "1.69808876e38 = 511 x 2^118", "2139095040 = 255 x 2^23"),
     ):
         for reading, lit in ((DOCUMENT, by_document), (CRATE, by_crate)):
-            check(" ".join(("by hand", *reading, name)), run("info", *reading, name)[0][7:9] == ["  darkest pixel    " + lit, "  brightest pixel  " + lit])
+            check(" ".join(("by hand", *reading, name)), run("info", *reading, name)[0][8:10] == ["  darkest pixel    " + lit, "  brightest pixel  " + lit])
     for order in (("--brief", "--crate"), ("--crate", "--brief")):
         got, status, _ = run("info", *order, names[-1], "small.hdr")
         want = [whole(answer(name, load(name), w, h, len(header(w, h)), CRATE)) for name, w, h in ((names[-1], 1, 1), ("small.hdr", 9, 2))]
@@ -876,10 +913,10 @@ def dim():
         keep(name, header(3, 2) + b"".join(bytes([0, 0, 0, e]) for e in exponents))
         for reading, values in ((DOCUMENT, answers), (CRATE, (NONE, NONE, 6, 0))):
             says = ["rgbe", "not stated"] if reading == DOCUMENT else ["not stated: %s lines are passed over with --crate" % word for word in ("FORMAT", "EXPOSURE")]
-            sizes = [name, "  width            3", "  height           2", "  colour           " + says[0], "  exposure         " + says[1]]
-            sizes += ["  bytes taken      87", "  bytes after      0"]
+            start = [name, "  width            3", "  height           2", "  orientation      " + turned(reading, header(3, 2))]
+            start += ["  colour           " + says[0], "  exposure         " + says[1], "  bytes taken      87", "  bytes after      0"]
             lines = ["  %-17s%s" % pair for pair in zip(NAMES[5:9], values)]
-            expect(" ".join(("info", *reading, name)), sizes + lines + ["  if written anew  87", "  at worst         87"], 0, "info", *reading, name)
+            expect(" ".join(("info", *reading, name)), start + lines + ["  if written anew  87", "  at worst         87"], 0, "info", *reading, name)
     for name, chart, black in DIM_STOPS:
         for reading in (DOCUMENT, CRATE):
             expect(" ".join(("stops", *reading, name)), [name, *chart, "  black pixels     %d" % black], 0, "stops", *reading, name)
@@ -920,21 +957,21 @@ FAULTS = (  # lines of a header, and by hand the number, the line's place and th
 
 def says():
     """What a header states, and the line at fault; with --crate neither is read."""
-    sizes = b"\n-Y 1 +X 1\n\x80\x40\x20\x81"
+    end = b"\n-Y 1 +X 1\n\x80\x40\x20\x81"
     for k, (lines, colour, exposure) in enumerate(SAID):
-        name, data = "said%d" % k, b"#?RADIANCE\n" + lines + sizes
+        name, data = "said%d" % k, b"#?RADIANCE\n" + lines + end
         keep(name, data)
         if colour is None:
             expect("by hand " + name, [name, "  refused          number %d in line *" % exposure], 1, "info", name)
             continue
         got, status, _ = run("info", name)
-        check("by hand " + name, status == 0 and got[3:5] == ["  colour           " + colour, "  exposure         " + exposure])
+        check("by hand " + name, status == 0 and got[4:6] == ["  colour           " + colour, "  exposure         " + exposure])
         for reading in (DOCUMENT, CRATE):
             expect(" ".join(("info", *reading, name)), answer(name, data, 1, 1, len(data) - 4, reading), 0, "info", *reading, name)
         got, status, _ = run("info", "--brief", name)
         check("table of " + name, got[1:] == [whole(answer(name, data, 1, 1, len(data) - 4)), ""])
     for k, (lines, number, place, line) in enumerate(FAULTS):
-        name, data = "fault%d" % k, b"#?RADIANCE\n" + lines + sizes
+        name, data = "fault%d" % k, b"#?RADIANCE\n" + lines + end
         keep(name, data)
         keep("out.hdr", b"mine")
         want = [name, "  refused          number %d in line %d (%s): *" % (number, place, line)]
@@ -948,10 +985,10 @@ def says():
         except Fault as fault:
             check("RULES of " + name, fault.args[:2] == (number, place))
         expect("info --crate " + name, answer(name, data, 1, 1, len(data) - 4, CRATE), 0, "info", "--crate", name)
-    keep("both", b"#?RADIANCE\nFORMAT=x\n\n+Y 1 +X 1\n")
+    keep("both", b"#?RADIANCE\nFORMAT=x\n\n+Y 1 -Y 1\n")
     expect("a FORMAT before axes", ["both", "  refused          number 15 in line 2 (FORMAT=x): *"], 1, "info", "both")
     expect("axes with --crate", ["both", "  refused          number 2: *"], 1, "info", "--crate", "both")
-    keep("both", b"#?RADIANT\nFORMAT=x\n\n+Y 1 +X 1\n")
+    keep("both", b"#?RADIANT\nFORMAT=x\n\n+Y 1 -Y 1\n")
     expect("the first line before all", ["both", "  refused          number 1: *"], 1, "info", "both")
 
 
@@ -975,41 +1012,103 @@ def keeps():
     data = keep("unknown.hdr", b"#?RGBE\nFORMAT=other\nEXPOSURE=none\n\n-Y 1 +X 8\n" + row)
     run("copy", "--crate", "unknown.hdr", "keeps.hdr", "--force")
     check("lines that are not read are kept with --crate", load("keeps.hdr") == data)
-    data = keep("columns.hdr", b"#?RGBE\n\n+X 8 -Y 2\n" + row * 2)
-    keep("keeps.hdr", b"mine")
-    want = ["columns.hdr", "  refused          the line of sizes starts with +X: by the Radiance document its pixels lie column by column, *"]
-    expect("columns are not copied as rows", want, 1, "copy", "columns.hdr", "keeps.hdr", "--force")
-    check("OUT is as it was", load("keeps.hdr") == b"mine" and not parts())
-    run("copy", "--crate", "columns.hdr", "keeps.hdr", "--force")
-    check("with --crate they are rows", load("keeps.hdr") == data)
+
+
+STATED = b"#?RGBE\n# by hand\nEXPOSURE=.5\n\n"
+ENDS = {  # a line of sizes and what follows it; by hand what each reading says of it, which is the same
+    "zero-width": (b"+X 0 -Y 3\n" + b"\0" * 12, "number 7: *"),
+    "x-high": (b"+X 1 -Y 65536\n", "number 4: *"),
+    "x-wide": (b"+X 65536 -Y 1\n", "number 5: *"),
+    "x-both": (b"+X 65536 -Y 65536\n", "number 4: *"),
+    "x-size": (b"+X two -Y 1\n", "number 3: *"),
+    "x-large": (b"+X 18446744073709551616 -Y 1\n", "number 3: the height or the width is too large: 65535 is the most"),
+    "x-twice": (b"+X 1 +X 1\nabcd", "number 2: *"),
+    "no-sign": (b"Y 1 X 1\nabcd", "number 2: *"),
+    "no-axis": (b"1 1 1 1\nabcd", "number 2: *"),
+    "small-letter": (b"-y 1 +x 1\nabcd", "number 2: *"),
+}
+AT = {  # by hand: where rows of the document end or break that are columns of the picture
+    "cut-columns": (b"+X 3 -Y 2\n" + b"abcd" * 5, "number 9 in row 2 *"),
+    "cut-rows": (b"+Y 2 -X 3\n" + b"abcd" * 5, "number 9 in row 1 *"),
+    "mark-width": (b"-X 20 +Y 9\n" + b"\2\2\0\11" + b"\211\1" * 4 + b"\2\2\0\24" + b"\224\1" * 4, "number 14 in row 1 *"),
+    "mark-height": (b"-Y 9 -X 20\n" + b"\2\2\0\24" + b"\224\1" * 4 + b"\2\2\0\11" + b"\211\1" * 4, "number 14 in row 1 *"),
+}
+
+
+def ends():
+    """Headers and rows that are refused, with X named first or Y: by hand."""
+    for name, (data, words) in {**ENDS, **AT}.items():
+        keep(name, STATED + data)
+        for reading in (DOCUMENT, CRATE) if name in ENDS else (DOCUMENT,):
+            expect(" ".join((name, *reading)), [name, "  refused          " + words], 1, "info", *reading, name)
+    want = [refused("cut-columns", 9, 2, 3, 2, "-", "0.5", "+X-Y"), refused("mark-width", 14, 1, 20, 9, "-", "0.5", "-X+Y"), refused("x-high", 4)]
+    check("a table of the refused", run("info", "--brief", "cut-columns", "mark-width", "x-high")[0][1:] == want + [""])
+    keep("no-height", b"#?RGBE\n\n-X 3 +Y 0\nrest")
+    none = ["none, there is no pixel"] * 2
+    lines = ("3", "0", "-X +Y: columns from the right, pixels from the bottom", "not stated", "not stated", "18", "4", *none, "0", "0", "18", "18")
+    labels = ("width", "height", "orientation", "colour", "exposure", "bytes taken", "bytes after", *NAMES[5:9], "if written anew", "at worst")
+    expect("a height of 0", ["no-height"] + ["  %-17s%s" % pair for pair in zip(labels, lines)], 0, "info", "no-height")
+    expect("the light of no height", ["no-height", "  light            none, there is no pixel", "  black pixels     0"], 0, "stops", "no-height")
+    run("copy", "no-height", "no-height2")
+    check("a copy of no height", load("no-height2") == b"#?RGBE\n\n-X 3 +Y 0\n")
+
+
+def shapes(axes):
+    """Files of an orientation: stored rows that are flat, coded, and as long as a row can be that is coded or a pixel longer; and none."""
+    rng = random.Random(axes)
+    for long, count in ((5, 3), (3, 20), (20, 3), (300, 2), (0, 4), *(((32767, 1), (32768, 1)) if axes in (b"+X-Y", b"-Y-X") else ())):
+        width, height = (count, long) if axes[1:2] == b"X" else (long, count)
+        if width:
+            start = STATED + sizes(axes, width, height)
+            rows = [pixels(rng, long, rng.choice(("noisy", "smooth"))) for _ in range(count)]
+            coded = b"".join(row if k % 2 else write_row(row, long) for k, row in enumerate(rows))
+            yield "%s-%dx%d" % (axes.decode(), width, height), width, height, start, coded
+
+
+def eight():
+    """The eight orientations: `info`, its table and `stops`; `twice` copies these files."""
+    files = {}
+    for axes in EIGHT:
+        for name, width, height, start, rows in shapes(axes):
+            name = "eight" + name
+            keep(name, start + rows + b"after")
+            files[name] = (width, height, len(start))
+    found = {name: answer(name, load(name), *file) for name, file in files.items()}
+    check("many of each", len(files) == 8 * 4 + 4 + 2 * 2 and all(len(lines) == 14 for lines in found.values()))
+    expect("eight orientations", [line for lines in found.values() for line in lines], 0, "info", *files)
+    got, status, said = run("info", "--brief", *files)
+    check("their table", got == ["\t".join(NAMES), *map(whole, found.values()), ""] and status == 0)
+    expect("their light", [line for name, file in files.items() for line in stops(DOCUMENT, name, load(name), *file)], 0, "stops", *files)
+    by_crate = {name: answer(name, load(name), *file, CRATE) for name, file in files.items()}
+    expect("eight orientations --crate", [line for lines in by_crate.values() for line in lines], 1, "info", "--crate", *files)
+    check("of which the crate takes two", {axes_of(load(name)) for name, lines in by_crate.items() if "number 2:" not in lines[1]} == {b"-Y+X", b"+X-Y"})
+    TWICE.update(files)
 
 
 def anew(reading, file, width, height, start):
-    """The copy of a file: its header, and its pixels by RULES 4, written by RULES 5; none where a row is at fault or the header cannot be kept."""
-    if columns(reading, file[:start], width, height):
-        return None
-    store, at, copy = bytearray(4 * width), start, file[:start]
+    """The copy of a file: its header, and its stored rows by RULES 4, written by RULES 5; none where it is refused."""
     try:
-        for _ in range(height):
-            at = read_row(reading, file, at, store, width)
-            copy += write_row(store, width)
+        long, count = stored(reading, file[:start], width, height)
+        store, at, copy = bytearray(4 * long), start, file[:start]
+        for _ in range(count):
+            at = read_row(reading, file, at, store, long)
+            copy += write_row(store, long)
     except Fault:
         return None
     return copy
 
 
 def twice():
-    """A copy of a copy is the copy, by either reading, whatever the first file is like: other axes and lines, other codes for the same pixels, old runs, any light."""
+    """A copy of a copy is the copy, by either reading under which its rows are as long, whatever the first file is like: other axes and lines, other codes for the same pixels, old runs, any light."""
     files = {name: (w, h, len(header(w, h))) for name, w, h in (("small.hdr", 9, 2), ("wide.hdr", 40000, 3), ("saved-dark.hdr", 3, 2), ("dim-edges.hdr", 3, 2), ("nothing", 8, 1), ("apart", 600, 1))}
     files["none.hdr"] = (3, 0, 22)
-    files["uncut.hdr"] = (9, 3, load("uncut.hdr").index(b"-Y 3\n") + 5)
     rng = random.Random(29)
     every = [bytes([m, rng.randrange(256), rng.randrange(256), e]) for e in range(256) for m in (0, 1, 127, 128, 255)]
     keep("lights.hdr", header(1280, 1) + b"".join(every))
     files["lights.hdr"] = (1280, 1, len(header(1280, 1)))
     dusk = keep("dusk.hdr", open(os.path.join(TOP, "skies/dusk.hdr"), "rb").read())
     files["dusk.hdr"] = (64, 32, dusk.index(b"\n", dusk.index(b"\n\n") + 2) + 1)
-    files.update({name: (w, h, len(header(w, h))) for name, w, h in SCATTERED[:60]})
+    files.update(TWICE)
     copied = 0
     for name, (width, height, start) in files.items():
         for reading in (DOCUMENT, CRATE):
@@ -1020,11 +1119,11 @@ def twice():
             run("copy", *reading, name, "first.hdr", "--force")
             check(" ".join(("the copy of", name, *reading)), load("first.hdr") == want)
             for again in (DOCUMENT, CRATE):
-                if anew(again, want, width, height, start) is None:
+                if anew(again, want, width, height, start) is None or len({stored(one, want[:start], width, height) for one in (reading, again)}) == 2:
                     continue
                 run("copy", *again, "first.hdr", "second.hdr", "--force")
                 check(" ".join(("the copy of the copy of", name, *reading, "then", *again)), load("second.hdr") == want)
-    print("  %d copies, each copied by both readings" % copied)
+    print("  %d copies, each copied again" % copied)
     check("many copies of copies", copied > 30)
 
 
@@ -1038,6 +1137,8 @@ def main():
     dim()
     says()
     keeps()
+    ends()
+    eight()
     headers()
     wide()
     long_rows()

@@ -7,6 +7,7 @@ use crate::outcome::Outcome;
 use crate::pen;
 use crate::pen::Pen;
 use crate::say;
+use crate::stored;
 use header::Head;
 use steps::Reading;
 ghost use Prim.Native.Nat.{_≤_};
@@ -23,16 +24,16 @@ fn write_row(
     to: i32,
     store: &[u8; 262140],
     room: &mut [u8; 524288],
-    width: usize,
+    long: usize,
     view: View,
     last: Pen,
 ) -> Copied
     requires { ⌜ Held view ⌝ }
-    requires { ⌜ (width ≤ 65535) × (last .put ≤ 262144) ⌝ }
+    requires { ⌜ (long ≤ 65535) × (last .put ≤ 262144) ⌝ }
     ensures { λ r. ⌜ Ended (r .outcome) ⌝ }
     ensures { λ r. ⌜ r .pen .put ≤ 262144 ⌝ }
 {
-    let pen = pen::put_row(to, store, width, room, last);
+    let pen = pen::put_row(to, store, long, room, last);
     if pen.failed {
         let outcome = Outcome::Unwritten;
         return Copied { outcome, pen };
@@ -49,19 +50,19 @@ fn copy_row(
     bytes: &mut [u8; 2097152],
     store: &mut [u8; 262140],
     room: &mut [u8; 524288],
-    width: usize,
+    long: usize,
     k: usize,
     view: View,
     pen: Pen,
 ) -> Copied
     requires { ⌜ Held view ⌝ }
-    requires { ⌜ (width ≤ 65535) × (pen .put ≤ 262144) ⌝ }
+    requires { ⌜ (long ≤ 65535) × (pen .put ≤ 262144) ⌝ }
     ensures { λ r. ⌜ Ended (r .outcome) ⌝ }
     ensures { λ r. ⌜ r .pen .put ≤ 262144 ⌝ }
 {
-    let step = file::next_row(reading, fd, bytes, store, width, k, view);
+    let step = file::next_row(reading, fd, bytes, store, long, k, view);
     match step {
-        Step::Row(next) => write_row(to, store, room, width, next, pen),
+        Step::Row(next) => write_row(to, store, room, long, next, pen),
         Step::Ended(outcome) => Copied { outcome, pen },
     }
 }
@@ -84,19 +85,19 @@ fn copy_rows(
     ensures { λ r. ⌜ Ended (r .outcome) ⌝ }
     ensures { λ r. ⌜ r .pen .put ≤ 262144 ⌝ }
 {
-    let width = head.width;
-    let height = head.height;
+    let long = stored::long(head);
+    let count = stored::count(head);
     let mut outcome = Outcome::Whole(view);
     let mut pen = start;
     let mut k = 0;
-    while k < height {
+    while k < count {
         let Outcome::Whole(v) = outcome else {
             return Copied { outcome, pen };
         };
-        let copied = copy_row(reading, fd, to, bytes, store, room, width, k, v, pen);
+        let copied = copy_row(reading, fd, to, bytes, store, room, long, k, v, pen);
         outcome = copied.outcome;
         pen = copied.pen;
-        say::progress(shown, k, height);
+        say::progress(shown, k, count);
         k += 1;
     }
     Copied { outcome, pen }
@@ -137,7 +138,7 @@ pub(crate) fn copy_all(
     requires { ⌜ (head .width ≤ 65535) × (head .height ≤ 65535) × (head .taken ≤ 2097152) ⌝ }
     ensures { λ r. ⌜ Ended (r .outcome) ⌝ }
 {
-    steps::clear(store, 4 * head.width);
+    steps::clear(store, 4 * stored::long(head));
     let start = pen::keep_header(to, bytes, head.taken);
     let copied = copy_rows(
         reading,

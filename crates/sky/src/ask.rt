@@ -98,6 +98,12 @@ fn help_reading() {
 // What a header states.
 fn help_stated() {
     say::text(
+        b"'orientation' says how the rows of a file lie in the picture: as its columns where the line of sizes\n",
+    );
+    say::text(
+        b"names X first. A row that is refused is a row of the file. With --crate rows run from the top always.\n",
+    );
+    say::text(
         b"'colour' and 'exposure' are what the header's lines FORMAT and EXPOSURE state; light is not divided by\n",
     );
     say::text(
@@ -109,17 +115,12 @@ fn help_stated() {
 // What a copy is, and how an answer ends.
 fn help_more() {
     say::text(
-        b"A copy has the header of IN, byte for byte, and the same pixels, bit for bit; only their coding is new.\n",
+        b"A copy has the header of IN, byte for byte, its orientation too, and the same pixels, bit for bit; only\n",
     );
     say::text(
-        b"Sizes +X width -Y height are columns by the document: only where width and height are the same, or with\n",
+        b"their coding is new. An OUT that is there is kept, unless --force is given; it keeps its mode then. A\n",
     );
-    say::text(
-        b"--crate, is such a file copied. An OUT that is there is kept, unless --force is given; it keeps its\n",
-    );
-    say::text(
-        b"mode then. A folder, a link or anything that is no plain file is never replaced.\n",
-    );
+    say::text(b"folder, a link or anything that is no plain file is never replaced.\n");
     say::text(
         b"The last line is 'ok' or 'refused', and the exit status 0 or 1; the table says how many are\n",
     );

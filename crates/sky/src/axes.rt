@@ -1,29 +1,72 @@
-// Whether the rows of a picture can be written anew under its own header.
-use header::Head;
+// The axes of a picture, in words.
+use crate::say;
 use steps::Reading;
-use words::fields::trim;
-use words::lines;
-ghost use Prim.Native.Nat.{_≤_};
-ghost use lib.ListN.{length};
+use words::axes::Orientation;
 
-// Whether the line of sizes starts with the width.
-fn is_width_first(header: &[u8]) -> bool {
-    let at = lines::lines_end(header, lines::past(header, 0, 10));
-    let a = lines::past(header, at, 32);
-    check::same(trim(&header[at..a]), b"+X")
+// One of two texts.
+fn say_one(second: bool, a: &[u8], b: &[u8]) {
+    if second {
+        say::text(b);
+    } else {
+        say::text(a);
+    }
 }
 
-// Whether the pixels under the header, which the bytes start with, are columns of another length than the rows that are written: so they are by the document under +X w -Y h.
-pub(crate) fn are_columns(reading: Reading, bytes: &[u8], head: Head) -> bool
-    requires { ⌜ head .taken ≤ length (now bytes) ⌝ }
-{
+// The two axes as the header names them, with this between them.
+fn say_pair(o: Orientation, between: &[u8]) {
+    if o.columns {
+        say_one(o.leftward, b"+X", b"-X");
+        say::text(between);
+        say_one(o.upward, b"-Y", b"+Y");
+    } else {
+        say_one(o.upward, b"-Y", b"+Y");
+        say::text(between);
+        say_one(o.leftward, b"+X", b"-X");
+    }
+}
+
+// Where the stored rows start, and their pixels.
+fn say_order(o: Orientation) {
+    if o.columns {
+        say_one(
+            o.leftward,
+            b": columns from the left",
+            b": columns from the right",
+        );
+        say_one(
+            o.upward,
+            b", pixels from the top\n",
+            b", pixels from the bottom\n",
+        );
+    } else {
+        say_one(o.upward, b": rows from the top", b": rows from the bottom");
+        say_one(
+            o.leftward,
+            b", pixels from the left\n",
+            b", pixels from the right\n",
+        );
+    }
+}
+
+// The orientation, in a line.
+pub(crate) fn say_line(reading: Reading, o: Orientation) {
+    say::text(b"  orientation      ");
     match reading {
-        Reading::Crate => false,
         Reading::Document => {
-            if head.width == head.height {
-                return false;
-            }
-            is_width_first(&bytes[..head.taken])
+            say_pair(o, b" ");
+            say_order(o);
         }
+        Reading::Crate => {
+            say::text(b"not told with --crate: rows are read from the top, pixels from the left\n");
+        }
+    }
+}
+
+// The orientation, in a field of a table; a dash with --crate.
+pub(crate) fn say_field(reading: Reading, o: Orientation) {
+    say::text(b"\t");
+    match reading {
+        Reading::Document => say_pair(o, b""),
+        Reading::Crate => say::text(b"-"),
     }
 }

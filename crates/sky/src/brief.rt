@@ -1,4 +1,5 @@
 // What a file holds, in a line of a table: its fields are set apart by tabs, and one that is not known is a dash.
+use crate::axes;
 use crate::file;
 use crate::file::Start;
 use crate::file::View;
@@ -8,6 +9,7 @@ use crate::outcome::Outcome;
 use crate::rows;
 use crate::said;
 use crate::say;
+use crate::stored;
 use header::Head;
 use steps::Reading;
 use survey::Totals;
@@ -17,7 +19,7 @@ ghost use Rattle.sky.specs.Inner.{Held};
 // The names of the fields.
 pub(crate) fn names() {
     say::text(b"status\tnumber\trow\twidth\theight\tdarkest pixel\tbrightest pixel\t");
-    say::text(b"black pixels\toutside 97-159\tbytes after\tcolour\texposure\tfile\n");
+    say::text(b"black pixels\toutside 97-159\tbytes after\tcolour\texposure\torientation\tfile\n");
 }
 
 // How many files are whole and how many are not, on standard error.
@@ -28,10 +30,12 @@ pub(crate) fn end(whole: usize, refused: usize) {
 }
 
 // The fields of what the header states, and the tab before the name.
-fn say_stated(head: Head) {
+fn say_stated(reading: Reading, head: Head) {
     let colour = head.colour;
     let exposure = head.exposure;
     said::say_fields(colour, exposure);
+    let o = head.orientation;
+    axes::say_field(reading, o);
     say::text(b"\t");
 }
 
@@ -39,17 +43,17 @@ fn say_stated(head: Head) {
 fn say_refused(outcome: Outcome) {
     say::text(b"refused\t");
     outcome::say_brief(outcome);
-    say::text(b"\t-\t-\t-\t-\t-\t-\t-\t-\t-\t");
+    say::text(b"\t-\t-\t-\t-\t-\t-\t-\t-\t-\t-\t");
 }
 
 // The fields of a file whose rows end too early.
-fn say_cut(head: Head, outcome: Outcome) {
+fn say_cut(reading: Reading, head: Head, outcome: Outcome) {
     say::text(b"refused\t");
     outcome::say_brief(outcome);
     say::tab(head.width);
     say::tab(head.height);
     say::text(b"\t-\t-\t-\t-\t-");
-    say_stated(head);
+    say_stated(reading, head);
 }
 
 // The fields of a file that is whole.
@@ -66,7 +70,7 @@ fn say_found(reading: Reading, head: Head, totals: Totals, after: usize) {
     say::tab(totals.black);
     say::tab(totals.masked);
     say::tab(after);
-    say_stated(head);
+    say_stated(reading, head);
 }
 
 // Reads the rows of a picture, says its fields, and answers whether it is whole.
@@ -81,7 +85,7 @@ fn tell_rows(
     requires { ⌜ Held view ⌝ }
     requires { ⌜ (head .width ≤ 65535) × (head .height ≤ 65535) ⌝ }
 {
-    steps::clear(store, 4 * head.width);
+    steps::clear(store, 4 * stored::long(head));
     let found = rows::read_rows(reading, fd, bytes, store, head, view, false);
     let outcome = found.outcome;
     match outcome {
@@ -91,7 +95,7 @@ fn tell_rows(
             true
         }
         _ => {
-            say_cut(head, outcome);
+            say_cut(reading, head, outcome);
             false
         }
     }

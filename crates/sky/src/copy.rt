@@ -1,6 +1,5 @@
 // A file written anew, with the same four-byte pixels, under a name that is the copy's own: it gets the name OUT from who started the program.
 use crate::anew;
-use crate::axes;
 use crate::fault;
 use crate::file;
 use crate::file::Start;
@@ -20,12 +19,6 @@ fn say_unmade(out: &[u8], error: i32) {
     say::name(out);
     say::text(b" cannot be made: ");
     name::say_reason(error);
-}
-
-// Says that the header cannot be kept.
-fn say_columns() {
-    say::text(b"  refused          the line of sizes starts with +X: by the Radiance document ");
-    say::text(b"its pixels lie column by column, and rows under it would be another picture\n");
 }
 
 // Says what was copied.
@@ -93,10 +86,6 @@ fn copy_to(
     requires { ⌜ Held view ⌝ }
     requires { ⌜ (head .width ≤ 65535) × (head .height ≤ 65535) × (head .taken ≤ 2097152) ⌝ }
 {
-    if axes::are_columns(reading, bytes, head) {
-        say_columns();
-        return false;
-    }
     let to = os::create(part);
     if to < 0 {
         say_unmade(out, os::errno());

@@ -149,12 +149,12 @@ fn row_in(
     end: usize,
     more: bool,
     store: &mut [u8],
-    width: usize,
+    long: usize,
 ) -> RowPart
-    requires { ⌜ (at ≤ end) × (end ≤ length (now bytes)) × (4 * width ≤ length (now store)) × (width ≤ 65535) ⌝ }
+    requires { ⌜ (at ≤ end) × (end ≤ length (now bytes)) × (4 * long ≤ length (now store)) × (long ≤ 65535) ⌝ }
     ensures { λ r. ⌜ RowWithin end r ⌝ }
 {
-    window::read_row(reading, &bytes[..end], more, at, store, width)
+    window::read_row(reading, &bytes[..end], more, at, store, long)
 }
 
 // Reads the row k into the row store.
@@ -163,12 +163,12 @@ pub(crate) fn next_row(
     fd: i32,
     bytes: &mut [u8; 2097152],
     store: &mut [u8; 262140],
-    width: usize,
+    long: usize,
     k: usize,
     view: View,
 ) -> Step
     requires { ⌜ Held view ⌝ }
-    requires { ⌜ width ≤ 65535 ⌝ }
+    requires { ⌜ long ≤ 65535 ⌝ }
     ensures { λ r. ⌜ Stepped r ⌝ }
 {
     let v = ahead(fd, bytes, view);
@@ -176,7 +176,7 @@ pub(crate) fn next_row(
         return Step::Ended(Outcome::Unreadable { error: v.error });
     }
     let end = part_end(v);
-    let answer = row_in(reading, bytes, v.at, end, goes_on(v, end), store, width);
+    let answer = row_in(reading, bytes, v.at, end, goes_on(v, end), store, long);
     match answer {
         RowPart::Read { next } => Step::Row(moved_to(v, next)),
         RowPart::Fault { number } => Step::Ended(Outcome::Refused(Refusal { number, place: k })),

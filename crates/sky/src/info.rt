@@ -11,6 +11,7 @@ use crate::outcome::Outcome;
 use crate::rows;
 use crate::said;
 use crate::say;
+use crate::stored;
 use header::Head;
 use steps::Reading;
 use survey::Totals;
@@ -18,27 +19,28 @@ use writer::WriteAnswer;
 ghost use Prim.Native.Nat.{_≤_};
 ghost use Rattle.sky.specs.Inner.{Held};
 
-// The longest that a file of this header can be: the rows are those of a file that is written with a header of its own.
-fn say_worst(head: Head) {
-    let worst = writer::worst(head.width, head.height);
+// The most bytes that so many rows of that length take: those of a file that is written with a header of its own. Rows with no pixel take none.
+fn worst_rows(long: usize, count: usize) -> usize {
+    let worst = writer::worst(long, count);
     match worst {
-        WriteAnswer::Done(n) => {
-            let rows = steps::less(n, header::length(head.width, head.height));
-            say::field(
-                b"  at worst         ",
-                std::num::wrapping_add_usize(head.taken, rows),
-            )
-        }
-        WriteAnswer::Refused(r) => {}
+        WriteAnswer::Done(n) => steps::less(n, header::length(long, count)),
+        WriteAnswer::Refused(r) => 0,
     }
 }
 
+// The longest that a file of this header can be.
+fn say_worst(head: Head)
+    requires { ⌜ (head .width ≤ 65535) × (head .height ≤ 65535) ⌝ }
+{
+    let rows = worst_rows(stored::long(head), stored::count(head));
+    say::field(
+        b"  at worst         ",
+        std::num::wrapping_add_usize(head.taken, rows),
+    );
+}
+
 // How long the file would be if it were written anew under its own header, with rows that take so many bytes.
-fn say_anew(head: Head, rows: usize, columns: bool) {
-    if columns {
-        say::text(b"  if written anew  it is not: the line of sizes starts with +X\n");
-        return;
-    }
+fn say_anew(head: Head, rows: usize) {
     say::field(
         b"  if written anew  ",
         std::num::wrapping_add_usize(head.taken, rows),
@@ -66,10 +68,13 @@ fn say_found(
     length: usize,
     taken: usize,
     after: usize,
-    columns: bool,
-) {
+)
+    requires { ⌜ (head .width ≤ 65535) × (head .height ≤ 65535) ⌝ }
+{
     say::field(b"  width            ", head.width);
     say::field(b"  height           ", head.height);
+    let o = head.orientation;
+    axes::say_line(reading, o);
     let colour = head.colour;
     let exposure = head.exposure;
     said::say_lines(reading, colour, exposure);
@@ -78,7 +83,7 @@ fn say_found(
     say_lights(reading, head.height, totals);
     say::field(b"  black pixels     ", totals.black);
     say::field(b"  outside 97-159   ", totals.masked);
-    say_anew(head, length, columns);
+    say_anew(head, length);
     say_worst(head);
 }
 
@@ -94,10 +99,9 @@ fn tell_rows(
     shown: bool,
 ) -> bool
     requires { ⌜ Held view ⌝ }
-    requires { ⌜ (head .width ≤ 65535) × (head .height ≤ 65535) × (head .taken ≤ 2097152) ⌝ }
+    requires { ⌜ (head .width ≤ 65535) × (head .height ≤ 65535) ⌝ }
 {
-    let columns = axes::are_columns(reading, bytes, head);
-    steps::clear(store, 4 * head.width);
+    steps::clear(store, 4 * stored::long(head));
     say::begin(shown, name);
     let found = rows::read_rows(reading, fd, bytes, store, head, view, shown);
     say::end(shown);
@@ -106,15 +110,7 @@ fn tell_rows(
         Outcome::Whole(v) => {
             let totals = found.totals;
             let after = file::after(fd, bytes, v);
-            say_found(
-                reading,
-                head,
-                totals,
-                found.length,
-                file::taken(v),
-                after,
-                columns,
-            );
+            say_found(reading, head, totals, found.length, file::taken(v), after);
             true
         }
         _ => {

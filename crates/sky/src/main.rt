@@ -18,8 +18,9 @@ mod rows;
 mod said;
 mod say;
 mod stops;
+mod stored;
 
-// What the program holds: a window of 2 MiB on the file, the widest row, and room for what is written.
+// What the program holds: a window of 2 MiB on the file, the longest row, and room for what is written.
 fn main() {
     let mut bytes = [0u8; 2097152];
     let mut store = [0u8; 262140];

@@ -25,17 +25,17 @@ pub(crate) fn sentence(number: u8) {
             b"this is no Radiance picture: its first line is neither #?RADIANCE nor #?RGBE",
         ),
         refusal::AXES => say::text(
-            b"the line of sizes is neither -Y height +X width nor +X width -Y height",
+            b"the line of sizes has to name X and Y, each with a sign and then its size, as -Y height +X width does; with --crate it has to be this or +X width -Y height",
         ),
         refusal::SIZE => say::text(b"the height or the width is no number"),
-        refusal::TOO_HIGH => say::text(b"the picture is higher than 65535 rows"),
+        refusal::TOO_HIGH => say::text(b"the picture is higher than 65535 pixels"),
         refusal::TOO_WIDE => say::text(b"the picture is wider than 65535 pixels"),
         refusal::NO_WIDTH => say::text(b"the picture is 0 pixels wide"),
         refusal::BYTES_END => say::text(
             b"the file ends before the picture does: it was cut off, or not copied whole",
         ),
         refusal::BROKEN_ROW => say::text(
-            b"the row is broken: its mark names another width, a run or a repeat passes its end, or a repeat has no pixel before it",
+            b"the row is broken: its mark names another length, a run or a repeat passes its end, or a repeat has no pixel before it",
         ),
         refusal::UNKNOWN_FORMAT => say::text(
             b"the FORMAT is not known: 32-bit_rle_rgbe and 32-bit_rle_xyze are",

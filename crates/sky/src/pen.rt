@@ -24,26 +24,26 @@ pub(crate) fn flush(to: i32, room: &[u8], pen: Pen) -> Pen
 }
 
 // Puts the row of the store into the room, and answers the place after it.
-fn write_row(store: &[u8; 262140], width: usize, room: &mut [u8; 524288], put: usize) -> usize
-    requires { ⌜ (width ≤ 65535) × (put ≤ 262144) ⌝ }
+fn write_row(store: &[u8; 262140], long: usize, room: &mut [u8; 524288], put: usize) -> usize
+    requires { ⌜ (long ≤ 65535) × (put ≤ 262144) ⌝ }
     ensures { λ r. ⌜ r ≤ 524288 ⌝ }
 {
-    rows_written::write_row(store, 0, width, room, put)
+    rows_written::write_row(store, 0, long, room, put)
 }
 
 // Writes the row of the store: the room is written out when it is half full.
 pub(crate) fn put_row(
     to: i32,
     store: &[u8; 262140],
-    width: usize,
+    long: usize,
     room: &mut [u8; 524288],
     pen: Pen,
 ) -> Pen
-    requires { ⌜ (width ≤ 65535) × (pen .put ≤ 262144) ⌝ }
+    requires { ⌜ (long ≤ 65535) × (pen .put ≤ 262144) ⌝ }
     ensures { λ r. ⌜ r .put ≤ 262144 ⌝ }
 {
     let full = Pen {
-        put: write_row(store, width, room, pen.put),
+        put: write_row(store, long, room, pen.put),
         written: pen.written,
         failed: pen.failed,
     };

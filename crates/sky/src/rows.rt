@@ -4,6 +4,7 @@ use crate::file::Step;
 use crate::file::View;
 use crate::outcome::Outcome;
 use crate::say;
+use crate::stored;
 use header::Head;
 use steps::Reading;
 use survey::Totals;
@@ -18,24 +19,24 @@ pub(crate) struct Found {
 }
 
 // How many bytes the row in the store is written in.
-fn row_length(store: &[u8; 262140], width: usize) -> usize
-    requires { ⌜ width ≤ 65535 ⌝ }
+fn row_length(store: &[u8; 262140], long: usize) -> usize
+    requires { ⌜ long ≤ 65535 ⌝ }
     ensures { λ r. ⌜ r ≤ 262144 ⌝ }
 {
-    rows_written::row_length(store, 0, width)
+    rows_written::row_length(store, 0, long)
 }
 
 // What the row in the store adds to what was found; the window stands behind it.
-fn with_row(reading: Reading, store: &[u8; 262140], width: usize, view: View, found: Found) -> Found
+fn with_row(reading: Reading, store: &[u8; 262140], long: usize, view: View, found: Found) -> Found
     requires { ⌜ Held view ⌝ }
-    requires { ⌜ (width ≤ 65535) × (found .totals .black ≤ 4294967296) × (found .totals .masked ≤ 4294967296) × (found .length ≤ 17179869184) ⌝ }
+    requires { ⌜ (long ≤ 65535) × (found .totals .black ≤ 4294967296) × (found .totals .masked ≤ 4294967296) × (found .length ≤ 17179869184) ⌝ }
     ensures { λ r. ⌜ Ended (r .outcome) ⌝ }
     ensures { λ r. ⌜ (r .totals .black ≤ found .totals .black + 65535) × (r .totals .masked ≤ found .totals .masked + 65535) × (r .length ≤ found .length + 262144) ⌝ }
 {
     let totals = found.totals;
     Found {
-        totals: survey::row(reading, store, width, totals),
-        length: found.length + row_length(store, width),
+        totals: survey::row(reading, store, long, totals),
+        length: found.length + row_length(store, long),
         outcome: Outcome::Whole(view),
     }
 }
@@ -46,20 +47,20 @@ fn read_row(
     fd: i32,
     bytes: &mut [u8; 2097152],
     store: &mut [u8; 262140],
-    width: usize,
+    long: usize,
     k: usize,
     view: View,
     found: Found,
 ) -> Found
     requires { ⌜ Held view ⌝ }
-    requires { ⌜ (width ≤ 65535) × (found .totals .black ≤ 4294967296) × (found .totals .masked ≤ 4294967296) × (found .length ≤ 17179869184) ⌝ }
+    requires { ⌜ (long ≤ 65535) × (found .totals .black ≤ 4294967296) × (found .totals .masked ≤ 4294967296) × (found .length ≤ 17179869184) ⌝ }
     ensures { λ r. ⌜ Ended (r .outcome) ⌝ }
     ensures { λ r. ⌜ (r .totals .black ≤ found .totals .black + 65535) × (r .totals .masked ≤ found .totals .masked + 65535) × (r .length ≤ found .length + 262144) ⌝ }
 {
     let totals = found.totals;
-    let step = file::next_row(reading, fd, bytes, store, width, k, view);
+    let step = file::next_row(reading, fd, bytes, store, long, k, view);
     match step {
-        Step::Row(next) => with_row(reading, store, width, next, found),
+        Step::Row(next) => with_row(reading, store, long, next, found),
         Step::Ended(outcome) => Found {
             totals,
             length: found.length,
@@ -96,17 +97,17 @@ pub(crate) fn read_rows(
     ensures { λ r. ⌜ Ended (r .outcome) ⌝ }
     ensures { λ r. ⌜ r .length ≤ 17179869184 ⌝ }
 {
-    let width = head.width;
-    let height = head.height;
+    let long = stored::long(head);
+    let count = stored::count(head);
     let mut found = nothing(view);
     let mut k = 0;
-    while k < height {
+    while k < count {
         let outcome = found.outcome;
         let Outcome::Whole(v) = outcome else {
             return found;
         };
-        found = read_row(reading, fd, bytes, store, width, k, v, found);
-        say::progress(shown, k, height);
+        found = read_row(reading, fd, bytes, store, long, k, v, found);
+        say::progress(shown, k, count);
         k += 1;
     }
     found

@@ -75,11 +75,11 @@ pub(crate) fn begin(shown: bool, name: &[u8]) {
 }
 
 // Progress at each tenth of the rows, of which k are done.
-pub(crate) fn progress(shown: bool, k: usize, height: usize)
-    requires { ⌜ (k < height) × (height ≤ 65535) ⌝ }
+pub(crate) fn progress(shown: bool, k: usize, count: usize)
+    requires { ⌜ (k < count) × (count ≤ 65535) ⌝ }
 {
-    let tenth = (k + 1) * 10 / height;
-    if shown && k * 10 / height < tenth {
+    let tenth = (k + 1) * 10 / count;
+    if shown && k * 10 / count < tenth {
         io::write_all(STDERR_FILENO, b" ");
         io::print_decimal(STDERR_FILENO, tenth as u64);
         io::write_all(STDERR_FILENO, b"0%");

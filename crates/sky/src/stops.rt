@@ -8,6 +8,7 @@ use crate::name;
 use crate::outcome;
 use crate::outcome::Outcome;
 use crate::say;
+use crate::stored;
 use header::Head;
 use steps::Reading;
 ghost use Prim.Native.Nat.{_≤_, _<_};
@@ -20,18 +21,18 @@ fn count_row(
     bytes: &mut [u8; 2097152],
     store: &mut [u8; 262140],
     counts: &mut [usize; 264],
-    width: usize,
+    long: usize,
     k: usize,
     view: View,
 ) -> Outcome
     requires { ⌜ Held view ⌝ }
-    requires { ⌜ width ≤ 65535 ⌝ }
+    requires { ⌜ long ≤ 65535 ⌝ }
     ensures { λ r. ⌜ Ended r ⌝ }
 {
-    let step = file::next_row(reading, fd, bytes, store, width, k, view);
+    let step = file::next_row(reading, fd, bytes, store, long, k, view);
     match step {
         Step::Row(next) => {
-            survey::stops::row(store, width, counts);
+            survey::stops::row(store, long, counts);
             Outcome::Whole(next)
         }
         Step::Ended(outcome) => outcome,
@@ -53,16 +54,16 @@ fn count_rows(
     requires { ⌜ (head .width ≤ 65535) × (head .height ≤ 65535) ⌝ }
     ensures { λ r. ⌜ Ended r ⌝ }
 {
-    let width = head.width;
-    let height = head.height;
+    let long = stored::long(head);
+    let count = stored::count(head);
     let mut outcome = Outcome::Whole(view);
     let mut k = 0;
-    while k < height {
+    while k < count {
         let Outcome::Whole(v) = outcome else {
             return outcome;
         };
-        outcome = count_row(reading, fd, bytes, store, counts, width, k, v);
-        say::progress(shown, k, height);
+        outcome = count_row(reading, fd, bytes, store, counts, long, k, v);
+        say::progress(shown, k, count);
         k += 1;
     }
     outcome
@@ -186,7 +187,7 @@ fn tell_rows(
     requires { ⌜ (head .width ≤ 65535) × (head .height ≤ 65535) ⌝ }
 {
     let mut counts = [0usize; 264];
-    steps::clear(store, 4 * head.width);
+    steps::clear(store, 4 * stored::long(head));
     say::begin(shown, name);
     let outcome = count_rows(reading, fd, bytes, store, &mut counts, head, view, shown);
     say::end(shown);

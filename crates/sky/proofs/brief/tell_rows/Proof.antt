@@ -4,6 +4,9 @@ use Rattle.sky.proofs.Laws.View.{ended-at, ended-end}
 use Rattle.sky.proofs.brief.tell_rows.Statement.{statement}
 use Rattle.sky.proofs.brief.tell_rows.Tie as tie
 
+long-requires : tie.Need-long-requires
+long-requires c κs = search needs
+
 mul-clear : tie.Need-mul-clear
 mul-clear c = search needs
 
@@ -35,6 +38,7 @@ pub tell-rows-spec : {M : Type 1} → statement M
 tell-rows-spec =
     tie.close
     (tie.spec
+    long-requires
     mul-clear
     clear-requires
     read-rows-requires

@@ -1,6 +1,6 @@
 -- `sky::info::tell_open` is safe.
 use borrow.Author.Needs.{needs}
-use Rattle.sky.proofs.Laws.View.{started-width, started-height, started-at, started-end, started-taken}
+use Rattle.sky.proofs.Laws.View.{started-width, started-height, started-at, started-end}
 use Rattle.sky.proofs.info.tell_open.Statement.{statement}
 use Rattle.sky.proofs.info.tell_open.Tie as tie
 
@@ -14,7 +14,7 @@ enum-known-start : tie.Need-enum-known-start
 enum-known-start c = search needs
 
 tell-rows-requires : tie.Need-tell-rows-requires
-tell-rows-requires c κs = ((search started-at, search started-end), (search started-width, search started-height, search started-taken))
+tell-rows-requires c κs = ((search started-at, search started-end), (search started-width, search started-height))
 
 enum-known-start-2 : tie.Need-enum-known-start-2
 enum-known-start-2 c = search needs

@@ -4,8 +4,8 @@ use Rattle.sky.proofs.Laws.View.{ended-at, ended-end}
 use Rattle.sky.proofs.info.tell_rows.Statement.{statement}
 use Rattle.sky.proofs.info.tell_rows.Tie as tie
 
-are-columns-requires : tie.Need-are-columns-requires
-are-columns-requires c κs = search needs
+long-requires : tie.Need-long-requires
+long-requires c κs = search needs
 
 mul-clear : tie.Need-mul-clear
 mul-clear c = search needs
@@ -47,7 +47,7 @@ pub tell-rows-spec : {M : Type 1} → statement M
 tell-rows-spec =
     tie.close
     (tie.spec
-    are-columns-requires
+    long-requires
     mul-clear
     clear-requires
     begin-requires

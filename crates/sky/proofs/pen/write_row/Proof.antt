@@ -7,12 +7,12 @@ use Rattle.sky.proofs.pen.write_row.Tie as tie
 
 write-row-requires : tie.Need-write-row-requires
 write-row-requires c κs =
-    let l = row-half (c .before .before .args .store .now) 0 (c .before .before .args .width) (search needs) in
+    let l = row-half (c .before .before .args .store .now) 0 (c .before .before .args .long) (search needs) in
     (search needs, omega arith)
 
 returns : tie.Need-returns
 returns c =
-    let l = row-half (c .before .before .before .args .store .now) 0 (c .before .before .before .args .width) (search needs) in
+    let l = row-half (c .before .before .before .args .store .now) 0 (c .before .before .before .args .long) (search needs) in
     omega arith
 
 pub write-row-spec : {M : Type 1} → statement M

@@ -8,11 +8,17 @@ use Rattle.sky.proofs.rows.read_rows.Statement.{statement}
 use Rattle.sky.proofs.rows.read_rows.Tie as tie
 
 abbrev Inv-loop : tie.InvT-loop
-Inv-loop reading fd bytes₀ store₀ shown width height found₀ k₀ bytes store found k =
-    (width ≤ 65535) × (height ≤ 65535) × (k ≤ height) × (found .totals .black ≤ k * 65535) × (found .totals .masked ≤ k * 65535) × (found .length ≤ k * 262144) × Ended (found .outcome)
+Inv-loop reading fd bytes₀ store₀ shown long count found₀ k₀ bytes store found k =
+    (long ≤ 65535) × (count ≤ 65535) × (k ≤ count) × (found .totals .black ≤ k * 65535) × (found .totals .masked ≤ k * 65535) × (found .length ≤ k * 262144) × Ended (found .outcome)
 
 abbrev μ-loop : tie.MeasureT-loop
-μ-loop reading fd bytes₀ store₀ shown width height found₀ k₀ bytes store found k = height - k
+μ-loop reading fd bytes₀ store₀ shown long count found₀ k₀ bytes store found k = count - k
+
+long-requires : tie.Need-long-requires Inv-loop μ-loop
+long-requires c κs = search needs
+
+count-requires : tie.Need-count-requires Inv-loop μ-loop
+count-requires c κs = search needs
 
 nothing-requires : tie.Need-nothing-requires Inv-loop μ-loop
 nothing-requires c κs = search needs
@@ -50,6 +56,8 @@ read-rows-spec =
     (tie.spec
     Inv-loop
     μ-loop
+    long-requires
+    count-requires
     nothing-requires
     loop-holds
     enum-known-outcome

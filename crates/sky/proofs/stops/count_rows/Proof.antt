@@ -7,10 +7,16 @@ use Rattle.sky.proofs.stops.count_rows.Statement.{statement}
 use Rattle.sky.proofs.stops.count_rows.Tie as tie
 
 abbrev Inv-loop : tie.InvT-loop
-Inv-loop reading fd bytes₀ store₀ counts₀ shown width height outcome₀ k₀ bytes store counts outcome k = (width ≤ 65535) × (height ≤ 65535) × (k ≤ height) × Ended outcome
+Inv-loop reading fd bytes₀ store₀ counts₀ shown long count outcome₀ k₀ bytes store counts outcome k = (long ≤ 65535) × (count ≤ 65535) × (k ≤ count) × Ended outcome
 
 abbrev μ-loop : tie.MeasureT-loop
-μ-loop reading fd bytes₀ store₀ counts₀ shown width height outcome₀ k₀ bytes store counts outcome k = height - k
+μ-loop reading fd bytes₀ store₀ counts₀ shown long count outcome₀ k₀ bytes store counts outcome k = count - k
+
+long-requires : tie.Need-long-requires Inv-loop μ-loop
+long-requires c κs = search needs
+
+count-requires : tie.Need-count-requires Inv-loop μ-loop
+count-requires c κs = search needs
 
 loop-holds : tie.Need-loop-holds Inv-loop μ-loop
 loop-holds c = search needs
@@ -45,6 +51,8 @@ count-rows-spec =
     (tie.spec
     Inv-loop
     μ-loop
+    long-requires
+    count-requires
     loop-holds
     enum-known-outcome
     returns
