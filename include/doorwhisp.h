@@ -8,8 +8,8 @@
  * THE ANSWER. Most calls fill a struct doorwhisp_answer that the caller lends; `answer` is the last parameter.
  *
  * LENT MEMORY. A list is a pointer to its first element and the count of its elements (not of bytes). A refusal
- * changes nothing in it, but for 9, 14 and 25, which leave the rows before theirs in the output. Beyond a result
- * nothing is changed.
+ * changes nothing in it, but for 9, 14 and 25, which leave the rows before theirs in the output, in their places.
+ * Beyond a result nothing is changed.
  *
  * THE CALLER sees to it that
  *   - each pointer is not null and is aligned for its type, also where the count is 0 (nothing is then read or
@@ -24,17 +24,22 @@
  * the others less than 4,096. The calls under "Reading", and those that make samples from the bytes of one pixel, have
  * no float divide and no square root (tools/no-divide looks for them).
  *
- * SAMPLES are three floats to a pixel, row by row from the top, red, green, blue. A four-byte pixel is three
- * mantissas and the exponent byte.
+ * SAMPLES are three floats to a pixel, row by row from the top, each row from the left, red, green, blue. A four-byte
+ * pixel is three mantissas and the exponent byte.
  *
  * THE READINGS are two. doorwhisp_read_document reads by the Radiance documents:
  *   - Light is (2m + 1) * 2^(E-137) at every exponent byte E from 1 to 255, the middle of its step, as Radiance's own
  *     library shows it. 0 is black; a mantissa of 0 at another exponent byte is half a step of grey.
  *   - A pixel 1, 1, 1, n in a flat row, an old run, repeats the pixel before it n * 256^k times, where k repeats stand
  *     directly ahead of it.
- *   - A row that is none of the document's is refusal 14: one with a mark whose width is not the header's, a repeat
+ *   - A row that is none of the document's is refusal 14: one with a mark whose width is not the row's length, a repeat
  *     with no pixel before it in its row, or a count or a repeat that passes the row's end.
  *   - A file that is cut in a row is refused by 9 in that row, wherever the cut is.
+ *   - The picture comes upright from each of the eight orientations (enum doorwhisp_orientation). The first axis that
+ *     the header names runs from row to row as they are stored, the second along such a row: +X w -Y h is w stored rows
+ *     of h pixels, each a column of the picture. It is the stored row that a mark names the width of, that is coded at
+ *     8 to 32,767 pixels, that the row store holds, and that 9 and 14 name; those before it are then in their places in
+ *     the output. A height of 0 is a picture without pixels, and a width of 0 is refusal 7, wherever they are named.
  *   - The header's lines FORMAT= and EXPOSURE= are told, under "WHAT A HEADER SAYS". One that cannot be read is refusal
  *     15 or 16.
  * doorwhisp_read reads as zune-hdr 0.5.2 does, for programs that are to show what they showed:
@@ -47,8 +52,9 @@
  *   - The mark's width is not compared with the header's, and a count that passes the row's end stops there.
  *   - A flat row with an old run is refusal 25: zune-hdr's way with them gives other pixels than the document's.
  *   - The header's lines are passed over, whatever they say: the kind of colour and the exposure are not stated.
+ *   - +X w -Y h is read row by row, as -Y h +X w is, though by the document it lies column by column. The six other
+ *     orientations are refusal 2.
  * In both
- *   - +X w -Y h is read row by row, as -Y h +X w is, though by the document it lies column by column;
  *   - samples are as they are stored: they are not divided by the exposure, and those of a file that states
  *     32-bit_rle_xyze are X, Y and Z;
  *   - the format has no checksum: damage that leaves rows of either kind is read as some other picture.
@@ -106,19 +112,19 @@ extern "C" {
 /* The numbers of the refusals. Of several that apply, the one that comes first in its call's list is answered. */
 enum doorwhisp_refusal {
     DOORWHISP_FIRST_LINE = 1,      /* the first line is neither #?RADIANCE nor #?RGBE */
-    DOORWHISP_AXES = 2,            /* the axes are neither -Y h +X w nor +X w -Y h */
+    DOORWHISP_AXES = 2,            /* the axes are none of the eight pairs; as zune-hdr reads, not -Y +X or +X -Y */
     DOORWHISP_SIZE = 3,            /* the height or the width is no number below 2^64 */
     DOORWHISP_TOO_HIGH = 4,        /* the height is over the limit */
     DOORWHISP_TOO_WIDE = 5,        /* the width is over the limit */
     DOORWHISP_SHORT_OUTPUT = 6,    /* the output has fewer than 3 * width * height samples */
     DOORWHISP_NO_WIDTH = 7,        /* the width is 0 */
-    DOORWHISP_SHORT_STORE = 8,     /* the row store has fewer than 4 * width bytes */
-    DOORWHISP_BYTES_END = 9,       /* the bytes end too early, in the row that `place` names */
+    DOORWHISP_SHORT_STORE = 8,     /* the row store has fewer bytes than a stored row, which has 4 to a pixel */
+    DOORWHISP_BYTES_END = 9,       /* the bytes end too early, in the stored row that `place` names */
     DOORWHISP_OVER_LIMIT = 10,     /* writing: the width or the height is over 65,535 */
     DOORWHISP_WRONG_LENGTH = 11,   /* writing: the frame has not 3 samples (4 bytes) to a pixel */
     DOORWHISP_TOO_BRIGHT = 12,     /* writing: the pixel that `place` names has a sample of 2^127 or more */
     DOORWHISP_NO_ROOM = 13,        /* writing: the file is longer than the output */
-    DOORWHISP_BROKEN_ROW = 14,     /* by the document: the row that `place` names has a wrong width, count or repeat */
+    DOORWHISP_BROKEN_ROW = 14,     /* by the document: a width, count or repeat is wrong in the stored row at `place` */
     DOORWHISP_UNKNOWN_FORMAT = 15, /* by the document: a FORMAT is neither 32-bit_rle_rgbe nor 32-bit_rle_xyze */
     DOORWHISP_EXPOSURE = 16,       /* by the document: an exposure cannot be read, or is or becomes zero or infinite */
     DOORWHISP_OLD_RUN = 25,        /* as zune-hdr reads: the row that `place` names is flat and has a pixel 1, 1, 1, n */
@@ -133,6 +139,21 @@ enum doorwhisp_colour {
 };
 
 /*
+ * How the rows of a file lie in its picture, by the axes in the order in which the header names them. The numbers are
+ * those of the Orientation tag of TIFF and EXIF. The picture that is read is upright in any case.
+ */
+enum doorwhisp_orientation {
+    DOORWHISP_MINUS_Y_PLUS_X = 1,  /* rows from the top, each from the left: the usual one, and as zune-hdr reads */
+    DOORWHISP_MINUS_Y_MINUS_X = 2, /* rows from the top, each from the right */
+    DOORWHISP_PLUS_Y_MINUS_X = 3,  /* rows from the bottom, each from the right */
+    DOORWHISP_PLUS_Y_PLUS_X = 4,   /* rows from the bottom, each from the left */
+    DOORWHISP_PLUS_X_MINUS_Y = 5,  /* columns from the left, each from the top */
+    DOORWHISP_MINUS_X_MINUS_Y = 6, /* columns from the right, each from the top */
+    DOORWHISP_MINUS_X_PLUS_Y = 7,  /* columns from the right, each from the bottom */
+    DOORWHISP_PLUS_X_PLUS_Y = 8    /* columns from the left, each from the bottom */
+};
+
+/*
  * What a call answers. A value that a call does not have is 0, and after a refusal all six are. Calls that answer one
  * count (a length, a buffer size) answer it in `taken`.
  */
@@ -144,7 +165,7 @@ typedef struct doorwhisp_answer {
     uint64_t taken;       /* how many bytes of the input were taken; or the count that was asked for */
     uint64_t colour;      /* the kind of colour that the header states, or 0 */
     uint64_t exposure;    /* the bit pattern of the exposure that it states, a float above 0; or 0: not stated */
-    uint64_t orientation; /* 0: kept for how a file's rows lie */
+    uint64_t orientation; /* how the file's rows lie, 1 to 8; as zune-hdr reads always 1 */
 } doorwhisp_answer;
 
 /* The answer is 64 bytes, as the calls fill it: a compiler that lays it out in another way stops here. */
@@ -155,7 +176,7 @@ DOORWHISP_HERE const char *doorwhisp_words(uint64_t refusal) {
     switch (refusal) {
     case 0: return "nothing is wrong";
     case DOORWHISP_FIRST_LINE: return "this is no Radiance file, its first line is wrong";
-    case DOORWHISP_AXES: return "the picture is turned in a way that is not read";
+    case DOORWHISP_AXES: return "the line of sizes does not name a pair of axes that is read";
     case DOORWHISP_SIZE: return "the file does not say its height and width in numbers";
     case DOORWHISP_TOO_HIGH: return "the picture is higher than the limit";
     case DOORWHISP_TOO_WIDE: return "the picture is wider than the limit";
@@ -187,6 +208,16 @@ DOORWHISP_HERE float doorwhisp_exposure(const struct doorwhisp_answer *answer) {
     return exposure.number;
 }
 
+/* How many pixels a stored row of a picture has, by the answer that its header or the whole file had. */
+DOORWHISP_HERE uint64_t doorwhisp_row_pixels(const struct doorwhisp_answer *answer) {
+    return answer->orientation >= DOORWHISP_PLUS_X_MINUS_Y ? answer->height : answer->width;
+}
+
+/* How many bytes the row store needs for it. */
+DOORWHISP_HERE uint64_t doorwhisp_store_size(const struct doorwhisp_answer *answer) {
+    return 4 * doorwhisp_row_pixels(answer);
+}
+
 /*
  * How many rows of a width up to 65,535 so many bytes can hold at most, as doorwhisp_read reads; 2^64 - 1 of width 0. A
  * picture that is higher than what follows its header can hold is refused by 9 or 25 in one of these rows or the next:
@@ -201,7 +232,8 @@ DOORWHISP_HERE uint64_t doorwhisp_most_rows(uint64_t width, uint64_t bytes) {
 
 /*
  * The same as doorwhisp_read_document reads, where a pixel and two repeats of it can be a row of any width; the refusal
- * is then 9 or 14. The samples of these rows are at most 65,535 times as many bytes.
+ * is then 9 or 14. These are stored rows, and the width is theirs (doorwhisp_row_pixels). The samples of these rows are
+ * at most 65,535 times as many bytes.
  */
 DOORWHISP_HERE uint64_t doorwhisp_document_most_rows(uint64_t width, uint64_t bytes) {
     if (width == 0) return (uint64_t)-1;
@@ -212,7 +244,7 @@ DOORWHISP_HERE uint64_t doorwhisp_document_most_rows(uint64_t width, uint64_t by
 
 /*
  * Reads the header at the start of the bytes: width, height, how many bytes the header takes, and by the document the
- * kind of colour and the exposure. Call the one that belongs to the reading.
+ * kind of colour, the exposure and the orientation. Call the one that belongs to the reading.
  * `widest` and `highest` are the largest width and height that the caller wants; above 65,535 they count as 65,535.
  * Refusals: 1; 15 or 16 (by the document alone), the one that comes first in the file; 2, 3, 4, 5.
  */
@@ -222,14 +254,17 @@ void doorwhisp_read_header(const uint8_t *bytes, size_t bytes_length, size_t wid
                            struct doorwhisp_answer *answer);
 
 /*
- * Reads a whole file: its samples into the start of `out`, by way of `store`, which holds one row. Answers width,
- * height, how many bytes the file took (bytes may follow), and by the document the kind of colour and the exposure.
- * `out` needs 3 * width * height samples, `store` 4 * width bytes: ask for the header first.
+ * Reads a whole file: its samples into the start of `out`, by way of `store`, which holds one stored row. Answers
+ * width, height, how many bytes the file took (bytes may follow), and by the document the kind of colour, the exposure
+ * and the orientation.
+ * `out` needs 3 * width * height samples, `store` as many bytes as doorwhisp_store_size says of the header's answer:
+ * 4 * width, and by the document, where the header names X first, 4 * height. So ask for the header first.
  * Refusals: 1; 15 or 16 (by the document alone), the one that comes first in the file; 2, 3, 4, 5, 6, 7, 8; then, in
- * the first row at fault, 9 or 14 (as zune-hdr reads, 9 or 25). These in row k leave rows 0 to k - 1 in `out` and the
- * rest of it as it was lent; `store` then holds what was read of row k over row k - 1. By the document that is whole
- * flat pixels, copies, runs and literals, and nothing of what is at fault; as zune-hdr reads, every byte as it was read,
- * the pixel 1, 1, 1, n too. On success the first 4 * width bytes of `store` are the last row, or 0 where there is none.
+ * the first stored row at fault, 9 or 14 (as zune-hdr reads, 9 or 25). These in row k leave the stored rows 0 to k - 1
+ * in their places in `out` and the rest of it as it was lent; `store` then holds what was read of row k over row k - 1.
+ * By the document that is whole flat pixels, copies, runs and literals, and nothing of what is at fault; as zune-hdr
+ * reads, every byte as it was read, the pixel 1, 1, 1, n too. On success the start of `store`, as long as it needs to
+ * be, is the last stored row, or 0 where there is none.
  */
 void doorwhisp_read_document(const uint8_t *bytes, size_t bytes_length, size_t widest, size_t highest, float *out,
                              size_t out_length, uint8_t *store, size_t store_length, struct doorwhisp_answer *answer);

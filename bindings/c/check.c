@@ -97,7 +97,8 @@ static void hold_header(void) {
     answer = read_text(text, plain);
     for (i = 0; i < 6; i++) hold(plain[i] + ldexp(1.0, -8) == lines[i], "half a step between the readings", i);
     hold(answer.width == 2 && answer.height == 1 && answer.taken == 26, "the sizes and the count", 0);
-    hold(answer.colour == 0 && answer.exposure == 0 && answer.orientation == 0, "nothing is stated", 0);
+    hold(answer.colour == 0 && answer.exposure == 0, "nothing is stated", 0);
+    hold(answer.orientation == DOORWHISP_MINUS_Y_PLUS_X, "rows from the top, each from the left", 0);
     answer = read_text("#?RGBE\nEXPOSURE=4\nFORMAT=32-bit_rle_xyze\n\n-Y 1 +X 2\nabc\x81" "def\x81", lines);
     hold(memcmp(plain, lines, 6 * sizeof *plain) == 0, "lines are passed over", 0);
     hold(answer.colour == DOORWHISP_NOT_STATED && answer.exposure == 0, "nothing is told of them", 0);
@@ -105,9 +106,11 @@ static void hold_header(void) {
     hold(answer.refusal == 0 && memcmp(plain, lines, 6 * sizeof *plain) == 0, "lines are passed over", 1);
     answer = read_text("#?RGBE\n\n+X 2 -Y 1\nabc\x81" "def\x81", lines);
     hold(answer.width == 2 && answer.height == 1, "the other axes", 0);
+    hold(answer.orientation == DOORWHISP_MINUS_Y_PLUS_X, "the other axes, from the top and from the left", 0);
     hold(memcmp(plain, lines, 6 * sizeof *plain) == 0, "the other axes, row by row", 0);
     answer = read_text("#?RGBE\n\n-Y 2 +X 0\n", lines);
     hold(answer.refusal == DOORWHISP_NO_WIDTH && answer.height == 0, "no values after a refusal", 0);
+    hold(answer.orientation == 0, "no orientation after a refusal", 0);
 }
 
 /* What a header with these lines answers by the document, and as zune-hdr reads; both were used before. */
@@ -171,6 +174,97 @@ static void hold_stated(void) {
     hold(answer.refusal == DOORWHISP_UNKNOWN_FORMAT && samples[0] == 7.0f, "15 comes before 2, and nothing is changed", 0);
     answer = read_file(wrong, sizeof wrong - 1, samples);
     hold(answer.refusal == DOORWHISP_AXES, "as zune-hdr reads it is 2", 0);
+}
+
+/* A file of 3 by 2 grey pixels: its line of sizes, its pixels as they are stored, and how that is told. */
+typedef struct turned {
+    const char *sizes, *stored;
+    uint64_t orientation;
+    size_t row;
+} turned;
+
+/* The picture A B C over D E F in each of the eight orientations. */
+static const turned all_eight[] = {
+    {"-Y 2 +X 3", "ABCDEF", DOORWHISP_MINUS_Y_PLUS_X, 3},  {"-Y 2 -X 3", "CBAFED", DOORWHISP_MINUS_Y_MINUS_X, 3},
+    {"+Y 2 -X 3", "FEDCBA", DOORWHISP_PLUS_Y_MINUS_X, 3},  {"+Y 2 +X 3", "DEFABC", DOORWHISP_PLUS_Y_PLUS_X, 3},
+    {"+X 3 -Y 2", "ADBECF", DOORWHISP_PLUS_X_MINUS_Y, 2},  {"-X 3 -Y 2", "CFBEAD", DOORWHISP_MINUS_X_MINUS_Y, 2},
+    {"-X 3 +Y 2", "FCEBDA", DOORWHISP_MINUS_X_PLUS_Y, 2},  {"+X 3 +Y 2", "DAEBFC", DOORWHISP_PLUS_X_PLUS_Y, 2},
+};
+
+/* Its bytes, and how many there are; at exponent byte 136 a step is 1. */
+static size_t turned_file(const turned *t, uint8_t file[64]) {
+    size_t length = (size_t)sprintf((char *)file, "#?RGBE\n\n%s\n", t->sizes), i;
+    for (i = 0; i < 6; i++, length += 4) {
+        memset(file + length, t->stored[i], 3);
+        file[length + 3] = 136;
+    }
+    return length;
+}
+
+/* The pixels of a file that lacks so many stored rows are in their places, and the rest is as it was lent, 7. */
+static void hold_places(const turned *t, const float *samples, size_t rows_missing, int at) {
+    const char *missing = t->stored + 6 - rows_missing * t->row;
+    int i;
+    for (i = 0; i < 6; i++) {
+        const float wanted = strchr(missing, "ABCDEF"[i]) ? 7.0f : (float)"ABCDEF"[i] + 0.5f;
+        hold(samples[3 * i] == wanted && samples[3 * i + 2] == wanted, "each pixel in its place", 10 * at + i);
+    }
+}
+
+/* By the document the picture is upright in all eight, by way of a row store as long as a stored row. */
+static void hold_orientations(void) {
+    int k;
+    for (k = 0; k < 8; k++) {
+        const turned *t = &all_eight[k];
+        float samples[18], lent[18];
+        uint8_t file[64], store[12];
+        doorwhisp_answer answer;
+        const size_t length = turned_file(t, file), row = 4 * t->row;
+        int i;
+        for (i = 0; i < 18; i++) samples[i] = lent[i] = 7.0f;
+        doorwhisp_read_document_header(file, length, 3, 2, &answer);
+        hold(answer.refusal == 0 && answer.width == 3 && answer.height == 2, "the sizes wherever they are named", k);
+        hold(answer.orientation == t->orientation && answer.orientation == (uint64_t)k + 1, "the orientation", k);
+        hold(doorwhisp_row_pixels(&answer) == t->row && doorwhisp_store_size(&answer) == row, "the row store", k);
+        doorwhisp_read_document(file, length, 3, 2, samples, 18, store, row - 1, &answer);
+        hold(answer.refusal == DOORWHISP_SHORT_STORE && memcmp(samples, lent, sizeof lent) == 0, "a byte less", k);
+        doorwhisp_read_document(file, length - 1, 3, 2, samples, 18, store, row, &answer);
+        hold(answer.refusal == DOORWHISP_BYTES_END && answer.place == 6 / t->row - 1, "9 in the last stored row", k);
+        hold_places(t, samples, 1, k);
+        doorwhisp_read_document(file, length, 3, 2, samples, 18, store, row, &answer);
+        hold(answer.refusal == 0 && answer.taken == length, "the whole file", k);
+        hold(answer.orientation == t->orientation, "the orientation of a file", k);
+        hold_places(t, samples, 0, k);
+        doorwhisp_read_header(file, length, 3, 2, &answer);
+        hold((answer.refusal == DOORWHISP_AXES) == (k != 0 && k != 4), "as zune-hdr reads two are taken", k);
+        hold(answer.orientation == (answer.refusal == 0), "as zune-hdr reads all are rows from the top", k);
+    }
+}
+
+/* A height of 0 needs no row store where columns are stored, and a width of 0 is 7; other pairs of axes are 2. */
+static void hold_other_sizes(void) {
+    static const struct {
+        const char *file;
+        uint64_t refusal;
+    } files[] = {
+        {"#?RGBE\n\n+X 3 -Y 0\n", 0},
+        {"#?RGBE\n\n-X 3 +Y 0\n", 0},
+        {"#?RGBE\n\n-Y 0 -X 3\n", DOORWHISP_SHORT_STORE},
+        {"#?RGBE\n\n+X 0 -Y 3\n", DOORWHISP_NO_WIDTH},
+        {"#?RGBE\n\n-Y 0 +Y 3\n", DOORWHISP_AXES},
+        {"#?RGBE\n\n+X 0 -X 3\n", DOORWHISP_AXES},
+        {"#?RGBE\n\nY 0 X 3\n", DOORWHISP_AXES},
+        {"#?RGBE\n\n+X 4 -Y 2\n", DOORWHISP_TOO_WIDE},
+        {"#?RGBE\n\n+X 4 -Y 5\n", DOORWHISP_TOO_HIGH},
+    };
+    float out[1];
+    uint8_t store[1];
+    doorwhisp_answer answer;
+    int i;
+    for (i = 0; i < (int)(sizeof files / sizeof *files); i++) {
+        doorwhisp_read_document((const uint8_t *)files[i].file, strlen(files[i].file), 3, 4, out, 0, store, 0, &answer);
+        hold(answer.refusal == files[i].refusal, "sizes wherever they are named", i);
+    }
 }
 
 /* Whether three samples are written as these four bytes. */
@@ -255,6 +349,8 @@ int main(void) {
     hold_most_rows();
     hold_header();
     hold_stated();
+    hold_orientations();
+    hold_other_sizes();
     hold_writing();
     hold_version();
     return status;

@@ -53,16 +53,19 @@ static void print_range(const float *samples, size_t count) {
     printf(", samples from %g to %g", darkest, brightest);
 }
 
-/* Prints what a header states of the kind of colour and the exposure, if it does. */
+/* Prints what a header states of the kind of colour and the exposure, if it does, and axes that are not the usual ones. */
 static void print_stated(const doorwhisp_answer *answer) {
+    static const char *const axes[] = {"-Y -X", "+Y -X", "+Y +X", "+X -Y", "-X -Y", "-X +Y", "+X +Y"};
     if (answer->colour == DOORWHISP_RGBE) printf(", rgbe");
     if (answer->colour == DOORWHISP_XYZE) printf(", xyze");
     if (answer->exposure != 0) printf(", exposure %g", doorwhisp_exposure(answer));
+    if (answer->orientation > DOORWHISP_MINUS_Y_PLUS_X)
+        printf(", stored %s", axes[answer->orientation - DOORWHISP_MINUS_Y_MINUS_X]);
 }
 
-/* Reads a picture whose header says these sizes, and says what it is. */
-static int show_rows(const picture *p, size_t width, size_t height) {
-    const size_t count = 3 * width * height, row = 4 * width;
+/* Reads a picture of which this is the header, and says what it is. */
+static int show_rows(const picture *p, const doorwhisp_answer *head) {
+    const size_t count = 3 * head->width * head->height, row = doorwhisp_store_size(head);
     float *out = malloc(count * sizeof *out + 1);
     uint8_t *store = malloc(row + 1);
     int status = 1;
@@ -75,8 +78,8 @@ static int show_rows(const picture *p, size_t width, size_t height) {
         if (status) {
             refused(p->name, &answer);
         } else {
-            printf("%s: %lu by %lu pixels, %lu of %lu bytes taken", p->name, (unsigned long)width,
-                   (unsigned long)height, (unsigned long)answer.taken, (unsigned long)p->length);
+            printf("%s: %lu by %lu pixels, %lu of %lu bytes taken", p->name, (unsigned long)answer.width,
+                   (unsigned long)answer.height, (unsigned long)answer.taken, (unsigned long)p->length);
             print_range(out, count);
             print_stated(&answer);
             printf("\n");
@@ -87,11 +90,12 @@ static int show_rows(const picture *p, size_t width, size_t height) {
     return status;
 }
 
-/* Says why a picture is refused within its first rows, which its bytes cannot hold: these are read alone. */
+/* Says why a picture is refused within its first stored rows, which its bytes cannot hold: these are read alone. */
 static int show_first(const picture *p, size_t start, size_t width, size_t height) {
     char header[64];
     const int said = sprintf(header, "#?RGBE\n\n-Y %lu +X %lu\n", (unsigned long)height, (unsigned long)width);
     const size_t length = (size_t)said;
+    const doorwhisp_answer head = {0, 0, width, height, length, 0, 0, DOORWHISP_MINUS_Y_PLUS_X};
     uint8_t *file = malloc(length + p->length);
     picture first = *p;
     int status = 1;
@@ -102,7 +106,7 @@ static int show_first(const picture *p, size_t start, size_t width, size_t heigh
         memcpy(file + length, p->bytes + start, p->length - start);
         first.bytes = file;
         first.length = length + p->length - start;
-        status = show_rows(&first, width, height);
+        status = show_rows(&first, &head);
     }
     free(file);
     return status;
@@ -112,12 +116,14 @@ static int show_first(const picture *p, size_t start, size_t width, size_t heigh
 static int show(const char *name, const uint8_t *bytes, size_t length, const reading *by) {
     const picture p = {name, bytes, length, by};
     doorwhisp_answer head;
-    uint64_t most;
+    uint64_t row, rows, most;
     by->header(bytes, length, 65535, 65535, &head);
     if (head.refusal != 0) return refused(name, &head);
-    most = by->most_rows(head.width, length - head.taken);
-    if (most < head.height) return show_first(&p, head.taken, head.width, most + 1);
-    return show_rows(&p, head.width, head.height);
+    row = doorwhisp_row_pixels(&head);
+    rows = row == head.width ? head.height : head.width;
+    most = by->most_rows(row, length - head.taken);
+    if (most < rows) return show_first(&p, head.taken, row, most + 1);
+    return show_rows(&p, &head);
 }
 
 /* Reads a file into memory; the caller frees it. Answers a null pointer where the file cannot be had. */

@@ -2,7 +2,7 @@
 
 use crate::face::{self, Head, Refusal};
 use crate::memory::zeros;
-use crate::HdrError;
+use crate::{HdrError, Orientation};
 use std::borrow::Cow;
 use std::io::Read;
 
@@ -227,18 +227,38 @@ impl<'a> HdrDecoder<'a> {
         self.head?.exposure
     }
 
+    /// How the file's rows lie in the picture, once the header was read. By [`Reading::Crate`] it is always
+    /// [`Orientation::MinusYPlusX`]. The samples are those of the upright picture whatever it is.
+    ///
+    /// ```
+    /// use doorwhisp::{DecoderOptions, HdrDecoder, Orientation, Reading};
+    ///
+    /// // two columns of one pixel, the right one first; at exponent byte 136 a step is 1
+    /// let file = b"#?RADIANCE\n\n-X 2 -Y 1\n\x08\x08\x08\x88\x09\x09\x09\x88";
+    /// let options = DecoderOptions::default().set_reading(Reading::Document);
+    /// let mut decoder = HdrDecoder::new_with_options(file, options);
+    /// assert_eq!(decoder.decode()?, [9.5, 9.5, 9.5, 8.5, 8.5, 8.5]);
+    /// assert_eq!(decoder.orientation(), Some(Orientation::MinusXMinusY));
+    /// assert_eq!(decoder.orientation().unwrap().to_string(), "-X -Y");
+    /// # Ok::<(), doorwhisp::HdrError>(())
+    /// ```
+    pub fn orientation(&self) -> Option<Orientation> {
+        self.head.map(|head| head.orientation)
+    }
+
     /// How many samples the picture has, once the header was read.
     pub fn output_buffer_size(&self) -> Option<usize> {
         let head = self.head?;
         face::output_buffer_size(head.width, head.height)
     }
 
-    /// How many bytes the row store of [`decode_with`](Self::decode_with) needs, once the header was read.
+    /// How many bytes the row store of [`decode_with`](Self::decode_with) needs, once the header was read: four for each
+    /// pixel of a stored row, which is a column of the picture where the header names X first.
     pub fn row_store_size(&self) -> Option<usize> {
-        self.head.map(|head| 4 * head.width)
+        self.head.map(|head| 4 * head.stored().0)
     }
 
-    /// The samples, three to a pixel, row by row from the top.
+    /// The samples, three to a pixel, row by row from the top and each row from the left.
     ///
     /// Memory for all of them is asked for first, and where it cannot be had, that is the error. Where the file cannot
     /// hold all its rows, it is asked for those that it may hold and one more, in which it is refused at the latest: so
@@ -250,37 +270,27 @@ impl<'a> HdrDecoder<'a> {
     pub fn decode(&mut self) -> Result<Vec<f32>, HdrError> {
         self.decode_headers()?;
         let head = self.read_header()?;
-        let left = self.bytes.len() - head.taken;
-        let most = most_rows(self.options.reading, head.width, left);
-        if most < head.height {
-            return Err(self.refusal_within(head, most + 1));
+        let (row, rows) = head.stored();
+        let left = &self.bytes[head.taken..];
+        let most = most_rows(self.options.reading, row, left.len());
+        if most < rows {
+            return Err(refusal_within(self.options.reading, row, most + 1, left));
         }
         let mut samples = zeros(3 * head.width * head.height)?;
         self.decode_into(&mut samples)?;
         Ok(samples)
     }
 
-    /// Why the file is refused within its first rows, which its bytes cannot hold: they are read alone, under a header
-    /// that says so many.
-    fn refusal_within(&self, head: Head, rows: usize) -> HdrError {
-        let mut file = format!("#?RGBE\n\n-Y {rows} +X {}\n", head.width).into_bytes();
-        file.extend_from_slice(&self.bytes[head.taken..]);
-        let mut decoder = HdrDecoder::new_with_options(&file, self.options);
-        let read = zeros(3 * head.width * rows)
-            .and_then(|mut samples: Vec<f32>| decoder.decode_into(&mut samples));
-        read.expect_err("fewer bytes than rows take at least hold no picture")
-    }
-
     /// Reads the samples into the start of the buffer, and answers how many bytes the file took.
     pub fn decode_into(&mut self, buffer: &mut [f32]) -> Result<usize, HdrError> {
         self.decode_headers()?;
-        let mut store = zeros(4 * self.read_header()?.width)?;
+        let mut store = zeros(4 * self.read_header()?.stored().0)?;
         self.decode_with(buffer, &mut store)
     }
 
     /// The same by way of a row store that is lent, so that no memory is asked for.
     pub fn decode_with(&self, buffer: &mut [f32], store: &mut [u8]) -> Result<usize, HdrError> {
-        let Head { width, height, .. } = self.read_header()?;
+        let head = self.read_header()?;
         let DecoderOptions {
             max_width,
             max_height,
@@ -291,12 +301,12 @@ impl<'a> HdrDecoder<'a> {
             .map_err(|Refusal { number, place }| match number {
                 6 => HdrError::ShortOutput {
                     found: buffer.len(),
-                    wanted: 3 * width * height,
+                    wanted: 3 * head.width * head.height,
                 },
                 7 => HdrError::NoWidth,
                 8 => HdrError::ShortStore {
                     found: store.len(),
-                    wanted: 4 * width,
+                    wanted: 4 * head.stored().0,
                 },
                 9 => HdrError::BytesEnd { row: place },
                 14 => HdrError::BrokenRow { row: place },
@@ -306,7 +316,19 @@ impl<'a> HdrDecoder<'a> {
     }
 }
 
-/// How many rows of a width so many bytes may hold, as proved of the reader (`crates/kept/specs/Least.antt`).
+/// Why a file is refused within its first stored rows, which the bytes behind its header cannot hold: they are read
+/// alone, under a header that says so many.
+fn refusal_within(reading: Reading, row: usize, rows: usize, bytes: &[u8]) -> HdrError {
+    let mut file = format!("#?RGBE\n\n-Y {rows} +X {row}\n").into_bytes();
+    file.extend_from_slice(bytes);
+    let options = DecoderOptions::default().set_reading(reading);
+    let mut decoder = HdrDecoder::new_with_options(&file, options);
+    let read =
+        zeros(3 * row * rows).and_then(|mut samples: Vec<f32>| decoder.decode_into(&mut samples));
+    read.expect_err("fewer bytes than rows take at least hold no picture")
+}
+
+/// How many stored rows of a width so many bytes may hold, as proved of the reader (`crates/kept/specs/Least.antt`).
 fn most_rows(reading: Reading, width: usize, bytes: usize) -> usize {
     match (reading, width) {
         (_, 0) => usize::MAX,

@@ -12,7 +12,8 @@ use std::{error, fmt, io};
 pub enum HdrError {
     /// 1: the first line is neither `#?RADIANCE` nor `#?RGBE`.
     FirstLine,
-    /// 2: the axes are neither `-Y h +X w` nor `+X w -Y h`.
+    /// 2: the axes are none of the eight pairs ([`Orientation`](crate::Orientation)); as the crate zune-hdr reads, they
+    /// are neither `-Y h +X w` nor `+X w -Y h`.
     Axes,
     /// 3: the height or the width is no number below 2^64.
     Size,
@@ -24,9 +25,10 @@ pub enum HdrError {
     ShortOutput { found: usize, wanted: usize },
     /// 7: the width is 0.
     NoWidth,
-    /// 8: the row store has fewer bytes than a row, which has four to a pixel.
+    /// 8: the row store has fewer bytes than a stored row, which has four to a pixel.
     ShortStore { found: usize, wanted: usize },
-    /// 9: the file ends within the row. The rows before it are in the output, the rest of the output is as it was lent.
+    /// 9: the file ends within the stored row. Those before it are in their places in the output, the rest of the output
+    /// is as it was lent.
     BytesEnd { row: usize },
     /// 10: the width or the height is over 65,535, which a file cannot be written in.
     OverLimit { width: usize, height: usize },
@@ -36,8 +38,8 @@ pub enum HdrError {
     TooBright { pixel: usize },
     /// 13: the file is longer than the output.
     NoRoom { found: usize, wanted: usize },
-    /// 14, by the document: the row has a mark with another width than the header's, a repeat with no pixel before it,
-    /// or a count or a repeat that passes its end. Memory is as after [`BytesEnd`](Self::BytesEnd).
+    /// 14, by the document: the stored row has a mark with another width than its length, a repeat with no pixel before
+    /// it, or a count or a repeat that passes its end. Memory is as after [`BytesEnd`](Self::BytesEnd).
     BrokenRow { row: usize },
     /// 15, by the document: the header has a line `FORMAT=` that says neither `32-bit_rle_rgbe` nor `32-bit_rle_xyze`.
     UnknownFormat,
@@ -95,7 +97,10 @@ impl fmt::Display for HdrError {
         }
         match self {
             Self::FirstLine => write!(f, "this is no Radiance file, its first line is wrong"),
-            Self::Axes => write!(f, "the picture is turned in a way that is not read"),
+            Self::Axes => write!(
+                f,
+                "the line of sizes does not name a pair of axes that is read"
+            ),
             Self::Size => write!(f, "the file does not say its height and width in numbers"),
             Self::TooHigh { limit } => write!(f, "the picture is higher than {limit}"),
             Self::TooWide { limit } => write!(f, "the picture is wider than {limit}"),

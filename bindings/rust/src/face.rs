@@ -1,6 +1,6 @@
 //! The calls as they are linked (`include/doorwhisp.h`), each behind a safe function.
 
-use crate::{Colour, HdrError, Reading};
+use crate::{Colour, HdrError, Orientation, Reading};
 use std::mem::size_of;
 
 /// What a call answers, as it fills it: the refusal's number or 0, its place or 0, and six values. A call that answers
@@ -17,8 +17,8 @@ struct Answer {
     colour: u64,
     /// The bit pattern of the exposure, 0 not stated.
     exposure: u64,
-    /// 0 so far.
-    _orientation: u64,
+    /// The orientation, 1 to 8; 0 where a call answers one count.
+    orientation: u64,
 }
 
 const _: () = assert!(size_of::<Answer>() == 64);
@@ -55,7 +55,7 @@ extern "C" {
     fn doorwhisp_pixel_to_bytes(r: f32, g: f32, b: f32, bytes: &mut [u8; 4]) -> u8;
 }
 
-/// Width, height, how many bytes were taken, and what the header states.
+/// Width, height, how many bytes were taken, what the header states, and how the stored rows lie.
 #[derive(Clone, Copy, Debug)]
 pub struct Head {
     pub width: usize,
@@ -63,6 +63,18 @@ pub struct Head {
     pub taken: usize,
     pub colour: Option<Colour>,
     pub exposure: Option<f32>,
+    pub orientation: Orientation,
+}
+
+impl Head {
+    /// How many pixels a stored row has, and how many stored rows there are.
+    pub fn stored(&self) -> (usize, usize) {
+        if self.orientation.is_by_columns() {
+            (self.height, self.width)
+        } else {
+            (self.width, self.height)
+        }
+    }
 }
 
 /// The number of a refusal, and its row or pixel or 0.
@@ -81,18 +93,12 @@ fn colour(number: u64) -> Option<Colour> {
     }
 }
 
-/// The sizes, the count and what is stated, or the refusal.
-fn head(call: impl FnOnce(&mut Answer)) -> Result<Head, Refusal> {
+/// What a call answers, or its refusal.
+fn answered(call: impl FnOnce(&mut Answer)) -> Result<Answer, Refusal> {
     let mut answer = Answer::default();
     call(&mut answer);
     match answer.refusal {
-        0 => Ok(Head {
-            width: answer.width as usize,
-            height: answer.height as usize,
-            taken: answer.taken as usize,
-            colour: colour(answer.colour),
-            exposure: (answer.exposure != 0).then(|| f32::from_bits(answer.exposure as u32)),
-        }),
+        0 => Ok(answer),
         number => Err(Refusal {
             number,
             place: answer.place as usize,
@@ -100,16 +106,26 @@ fn head(call: impl FnOnce(&mut Answer)) -> Result<Head, Refusal> {
     }
 }
 
+/// The sizes, the count, what is stated and how the rows lie, or the refusal.
+fn head(call: impl FnOnce(&mut Answer)) -> Result<Head, Refusal> {
+    answered(call).map(|answer| Head {
+        width: answer.width as usize,
+        height: answer.height as usize,
+        taken: answer.taken as usize,
+        colour: colour(answer.colour),
+        exposure: (answer.exposure != 0).then(|| f32::from_bits(answer.exposure as u32)),
+        orientation: Orientation::ALL[answer.orientation as usize - 1],
+    })
+}
+
 /// The count alone, or the refusal.
 fn length(call: impl FnOnce(&mut Answer)) -> Result<usize, Refusal> {
-    head(call).map(|head| head.taken)
+    answered(call).map(|answer| answer.taken as usize)
 }
 
 /// The count, unless there is none.
 fn amount(call: impl FnOnce(&mut Answer)) -> Option<usize> {
-    let mut answer = Answer::default();
-    call(&mut answer);
-    (answer.refusal == 0).then_some(answer.taken as usize)
+    length(call).ok()
 }
 
 // Each slice below is handed over as its pointer, which is never null, and its length; the call keeps neither.

@@ -1,7 +1,7 @@
 //! Radiance HDR pictures, read and written by code that is proved to do what its definitions say, on every input.
 //!
 //! The names are those of the crate zune-hdr where it has one for the same thing. A file and a frame are in memory;
-//! samples are `f32`, three to a pixel, row by row from the top.
+//! samples are `f32`, three to a pixel, row by row from the top and each row from the left.
 //!
 //! - No call keeps what it is lent, none has state, and threads need no lock.
 //! - Encoding samples uses 131,072 bytes of stack and a little more.
@@ -16,9 +16,14 @@
 //!   library shows it. 0 is black; a mantissa of 0 at another exponent byte is half a step of grey.
 //! - A pixel 1, 1, 1, n in a flat row, an old run, repeats the pixel before it n * 256^k times, where k repeats stand
 //!   directly ahead of it.
-//! - A row that is none of the document's is refusal 14: one with a mark whose width is not the header's, a repeat with
-//!   no pixel before it in its row, or a count or a repeat that passes the row's end.
+//! - A row that is none of the document's is refusal 14: one with a mark whose width is not the row's length, a repeat
+//!   with no pixel before it in its row, or a count or a repeat that passes the row's end.
 //! - A file that is cut in a row is refused by 9 in that row, wherever the cut is.
+//! - The picture comes upright from each of the eight orientations ([`Orientation`]). The first axis that the header
+//!   names runs from row to row as they are stored, the second along such a row: `+X w -Y h` is w stored rows of h
+//!   pixels, each a column of the picture. It is the stored row that a mark names the width of, that is coded at 8 to
+//!   32,767 pixels, that the row store holds, and that 9 and 14 name; those before it are then in their places in the
+//!   output. A height of 0 is a picture without pixels, and a width of 0 is refusal 7, wherever they are named.
 //! - The header's lines `FORMAT=` and `EXPOSURE=` are told, as [below](#what-a-header-says). One that cannot be read is
 //!   refusal 15 or 16.
 //!
@@ -33,10 +38,11 @@
 //! - The mark's width is not compared with the header's, and a count that passes the row's end stops there.
 //! - A flat row with an old run is refusal 25: zune-hdr's way with them gives other pixels than the document's.
 //! - The header's lines are passed over, whatever they say: the kind of colour and the exposure are not stated.
+//! - `+X w -Y h` is read row by row, as `-Y h +X w` is, though by the document it lies column by column. The six other
+//!   orientations are refusal 2.
 //!
 //! In both
 //!
-//! - `+X w -Y h` is read row by row, as `-Y h +X w` is, though by the document it lies column by column;
 //! - samples are as they are stored: they are not divided by the exposure, and those of a file that states
 //!   `32-bit_rle_xyze` are X, Y and Z;
 //! - the format has no checksum: damage that leaves rows of either kind is read as some other picture.
@@ -78,8 +84,10 @@ mod encoder;
 mod errors;
 mod face;
 mod memory;
+mod orientation;
 
 pub use decoder::{Colour, DecoderOptions, HdrDecoder, Reading};
 pub use encoder::{EncoderOptions, HdrEncoder};
 pub use errors::HdrError;
 pub use face::{document_pixel_from_bytes, pixel_from_bytes, pixel_to_bytes};
+pub use orientation::Orientation;

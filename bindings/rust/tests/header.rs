@@ -164,7 +164,7 @@ fn the_first_fault_is_told_after_1_and_before_2() {
     let told = |file: &str| by_document(file.as_bytes()).decode_headers().unwrap_err();
     assert_eq!(told("#?WRONG\nFORMAT=x\n\n"), HdrError::FirstLine);
     assert_eq!(
-        told("#?RGBE\nFORMAT=x\n\n-X 1 +Y 1\n"),
+        told("#?RGBE\nFORMAT=x\n\n-X 1 +X 1\n"),
         HdrError::UnknownFormat
     );
     assert_eq!(told("#?RGBE\nEXPOSURE=0"), HdrError::Exposure);

@@ -12,9 +12,17 @@ fn decoder(reading: Reading, file: &[u8]) -> HdrDecoder<'_> {
     HdrDecoder::new_with_options(file, DecoderOptions::default().set_reading(reading))
 }
 
+/// What makes a header of a stored row's length and a count of rows.
+type Header = fn(usize, usize) -> Vec<u8>;
+
 /// The header of a picture.
 fn header(width: usize, height: usize) -> Vec<u8> {
     format!("#?RGBE\n\n-Y {height} +X {width}\n").into_bytes()
+}
+
+/// The header of a picture that is stored by columns, so many of this height.
+fn column_header(height: usize, columns: usize) -> Vec<u8> {
+    format!("#?RGBE\n\n+X {columns} -Y {height}\n").into_bytes()
 }
 
 /// The shortest rows: four bytes to a pixel, or runs of 127; of the last count of all the bytes are missing, and it may
@@ -103,16 +111,18 @@ fn the_shortest_rows_are_read_by_the_document() {
         for height in 1..4 {
             let rows = repeats(width, height);
             assert_eq!(rows.len(), least(Reading::Document, width, height));
-            let file = [header(width, height), rows].concat();
-            let samples = decoder(Reading::Document, &file).decode().unwrap();
-            let pixel = [19.0 / 256.0; 3];
-            assert_eq!(samples, pixel.repeat(width * height));
+            for header in [header(width, height), column_header(width, height)] {
+                let file = [&header[..], &rows].concat();
+                let samples = decoder(Reading::Document, &file).decode().unwrap();
+                let pixel = [19.0 / 256.0; 3];
+                assert_eq!(samples, pixel.repeat(width * height));
+            }
         }
     }
 }
 
 /// Holds `decode` to `decode_into` on files with fewer bytes than their rows take; how many are 9, and how many not.
-fn refused_alike(reading: Reading) -> [usize; 2] {
+fn refused_alike(reading: Reading, header: Header) -> [usize; 2] {
     let mut bytes = Bytes(1);
     let mut numbers = [0; 2];
     for width in WIDTHS {
@@ -137,8 +147,14 @@ fn refused_alike(reading: Reading) -> [usize; 2] {
 
 #[test]
 fn fewer_bytes_are_refused_as_where_memory_is_lent() {
-    for reading in [Reading::Crate, Reading::Document] {
-        let numbers = refused_alike(reading);
+    use Reading::{Crate, Document};
+    let kinds: [(Reading, Header); 3] = [
+        (Crate, header),
+        (Document, header),
+        (Document, column_header),
+    ];
+    for (reading, header) in kinds {
+        let numbers = refused_alike(reading, header);
         assert!(numbers.iter().all(|n| *n > 100), "{numbers:?} {reading:?}");
     }
 }

@@ -24,9 +24,18 @@ unsafe impl GlobalAlloc for Watched {
 #[global_allocator]
 static WATCHED: Watched = Watched;
 
-/// What `decode` says of a picture of 65,535 rows, and the most bytes that it asks for at once.
-fn told(reading: Reading, width: usize, rows: &[u8]) -> (HdrError, usize) {
-    let header = format!("#?RGBE\n\n-Y 65535 +X {width}\n");
+/// A picture of 65,535 rows of a width, and by the document one of as many columns of that height.
+fn lines_of_sizes(reading: Reading, width: usize) -> Vec<String> {
+    let by_rows = format!("-Y 65535 +X {width}");
+    match reading {
+        Reading::Crate => vec![by_rows],
+        Reading::Document => vec![by_rows, format!("+X 65535 -Y {width}")],
+    }
+}
+
+/// What `decode` says of a picture with this line of sizes, and the most bytes that it asks for at once.
+fn told(reading: Reading, sizes: &str, rows: &[u8]) -> (HdrError, usize) {
+    let header = format!("#?RGBE\n\n{sizes}\n");
     let file = [header.as_bytes(), rows].concat();
     let options = DecoderOptions::default().set_reading(reading);
     MOST.store(0, Ordering::Relaxed);
@@ -56,16 +65,18 @@ fn a_few_bytes_that_say_an_immense_picture_ask_for_little_memory() {
         (Document, 1, pixel.repeat(70), end(70)),
     ];
     for (reading, width, rows, refusal) in cases {
-        let (found, most) = told(reading, width, &rows);
-        assert_eq!(found, refusal);
         let times = if reading == Crate {
             191
         } else {
             width.max(400)
         };
-        assert!(
-            most <= times * (rows.len() + 30) + 12 * width,
-            "{most} bytes at width {width}"
-        );
+        for sizes in lines_of_sizes(reading, width) {
+            let (found, most) = told(reading, &sizes, &rows);
+            assert_eq!(found, refusal);
+            assert!(
+                most <= times * (rows.len() + 30) + 12 * width,
+                "{most} bytes of {sizes}"
+            );
+        }
     }
 }
