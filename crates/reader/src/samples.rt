@@ -50,7 +50,7 @@ fn onward(back: bool, o: usize, stride: usize) -> usize
     }
 }
 
-// The samples of the row store's first n pixels, to the output along a line.
+// The samples of the row store's first n pixels, one by one to the output along a line.
 fn put_line(reading: Reading, store: &[u8], out: &mut [f32], line: Line, n: usize)
     requires { ⌜ (4 * n ≤ length (now store)) × Room line n (length (now out)) ⌝ }
     ensures { λ _. ⌜ now (out .exit) ≡ placed (pixelBy reading) (lineAt line) (now (store .entry)) 0 n (now (out .entry)) ⌝ }
@@ -79,7 +79,7 @@ fn is_along(line: Line, n: usize) -> bool
     line.stride == 1 && 0 < n
 }
 
-// The same: where the line lies as the row is stored, in one piece.
+// The samples of the row store's first n pixels, to the output along a line: in one piece where it lies as the row is stored.
 pub(crate) fn put_row(reading: Reading, store: &[u8], out: &mut [f32], line: Line, n: usize)
     requires { ⌜ (4 * n ≤ length (now store)) × Room line n (length (now out)) ⌝ }
     ensures { λ _. ⌜ now (out .exit) ≡ placed (pixelBy reading) (lineAt line) (now (store .entry)) 0 n (now (out .entry)) ⌝ }

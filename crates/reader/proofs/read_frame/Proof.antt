@@ -28,13 +28,13 @@ long-requires : tie.Need-long-requires
 long-requires c κs = search needs
 
 mul-if3 : tie.Need-mul-if3
-mul-if3 c = record { fits = search (four-fit, c .long .ensures, c .before .before .before .before .before .before .before .pre .0, c .before .before .before .before .before .before .before .pre .1) }
+mul-if3 c = record { fits = search (needs, four-fit, c .long .ensures, c .before .before .before .before .before .before .before .pre .0, c .before .before .before .before .before .before .before .pre .1) }
 
 refused-requires-3 : tie.Need-refused-requires-3
 refused-requires-3 c κs = search needs
 
 returns-3 : tie.Need-returns-3
-returns-3 c = search frame-short-store
+returns-3 c = frame-short-store _ _ _ _ _ _ (c .before .before .before .before .if1 .left) (c .before .before .before .if2 .left) _ (c .before .before .long .ensures) _ (c .before .if3 .taken) (c .refused3 .ensures)
 
 mul-clear : tie.Need-mul-clear
 mul-clear c = search needs
