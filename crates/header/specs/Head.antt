@@ -1,4 +1,4 @@
--- What reading the header answers (RULES 3.5 to 3.7), with the checks 1 to 5, 15 and 16 (RULES 2.2).
+-- What reading the header answers (RULES 3.5 to 3.7 and 3.14), with the checks 1 to 5, 15 and 16 (RULES 2.2).
 use Prim.Native.Nat.{ℕ, min}
 use mathlib.Core.Bool.{Bool, true, not, _&&_, _||_}
 use mathlib.Core.List.{List, [], _∷_}

@@ -98,7 +98,7 @@ wholePixel src at (Channels next) store = store
 unfoldable pub documentStart : List ℕ → ℕ → List ℕ → List ℕ
 documentStart src at store = wholePixel src at (kindOf src at) store
 
--- "The mark's width must be the header's."
+-- the mark's width must be that of the stored row
 unfoldable pub documentMark : List ℕ → ℕ → ℕ → Bool
 documentMark src at width = eqb (getD src (at + 2) 0 * 256 + getD src (at + 3) 0) width
 
