@@ -168,25 +168,30 @@ def headers():
         yield Case("header", name, file(2, 2, flat(picture), header), 2, 2, picture, wrong, word)
 
 
-def axes():
-    """A picture of 3 by 2 in all eight orders; the axis named first changes slowest."""
-    width, height = 3, 2
-    picture = pixels(width * height)
-    for first in ("-Y", "+Y", "+X", "-X"):
-        for second in ("+X", "-X") if first[1] == "Y" else ("-Y", "+Y"):
-            order = {"+X": range(width), "-X": range(width)[::-1], "-Y": range(height), "+Y": range(height)[::-1]}
-            stored = []
-            for i in order[first]:
-                for j in order[second]:
-                    x, y = (j, i) if first[1] == "Y" else (i, j)
-                    stored.append(picture[y * width + x])
-            length = {"X": width, "Y": height}
-            line = f"{first} {length[first[1]]} {second} {length[second[1]]}\n".encode()
-            case = Case("axes", f"{first} {second}", HEADER + line + flat(stored), width, height, picture)
-            case.stored = stored
+AXES = ("-Y +X", "-Y -X", "+Y +X", "+Y -X", "+X -Y", "+X +Y", "-X -Y", "-X +Y")
+
+
+def stored_rows(picture, width, height, axes):
+    """A picture's rows as they are stored: the axis named first runs from row to row, -Y from the top and +X from the left."""
+    order = {"+X": range(width), "-X": range(width)[::-1], "-Y": range(height), "+Y": range(height)[::-1]}
+    first, second = axes.split()
+    places = [[(i, j) if first[1] == "X" else (j, i) for j in order[second]] for i in order[first]]
+    return [[picture[y * width + x] for x, y in row] for row in places]
+
+
+def orientations():
+    """Two pictures in each of the eight orientations: one with flat rows and one with coded rows."""
+    for axes in AXES:
+        first, second = axes.split()
+        for kind, write, width, height in (("flat rows", flat, 3, 2), ("coded rows", coded, 12, 9)):
+            picture, long = even(pixels(width * height)), {"X": width, "Y": height}
+            rows = stored_rows(picture, width, height, axes)
+            line = f"{first} {long[first[1]]} {second} {long[second[1]]}\n".encode()
+            case = Case(kind, axes, HEADER + line + b"".join(map(write, rows)), width, height, picture)
+            case.stored = b"".join(map(flat, rows))
             yield case
 
 
 def cases():
-    for group in (plain, old_runs, both_kinds, mark_width, cut_off, overlong, exponents, headers, axes):
+    for group in (plain, old_runs, both_kinds, mark_width, cut_off, overlong, exponents, headers):
         yield from group()

@@ -7,6 +7,16 @@ import reading
 from papers import lower_edge, middle
 
 VALUES = ((middle, ""), (lower_edge, ", lower edge"))
+TURNINGS = {  # the eight ways in which a picture can lie
+    "upright": lambda picture: picture,
+    "left and right exchanged": lambda picture: picture[:, ::-1],
+    "top and bottom exchanged": lambda picture: picture[::-1],
+    "turned by 180 degrees": lambda picture: picture[::-1, ::-1],
+    "columns as rows": lambda picture: picture.transpose(1, 0, 2),
+    "columns as rows, turned by 180 degrees": lambda picture: picture.transpose(1, 0, 2)[::-1, ::-1],
+    "turned by 90 degrees clockwise": lambda picture: numpy.rot90(picture, -1),
+    "turned by 90 degrees counterclockwise": lambda picture: numpy.rot90(picture),
+}
 
 
 def expected(case, value):
@@ -60,19 +70,6 @@ def invented(case, done):
     return "light that is not in the file"
 
 
-def stored_order(case, done):
-    """Words for a picture whose pixels stand as they are stored; none if they do not."""
-    for value, name in VALUES:
-        if not same(done.samples, value(b"".join(case.stored), (1, len(case.stored))).reshape(-1)):
-            continue
-        words = f"stored order, {done.width} by {done.height}{name}"
-        if done.turned:
-            right = done.turned[:2] == (case.width, case.height) and same(done.turned[2], expected(case, value))
-            words += f"; says orientation {done.turn}, its own turning gives {'the document picture' if right else 'another picture'}"
-        return words
-    return None
-
-
 def accepted(case, done, name):
     """Words for a picture that has all pixels which are in the file."""
     warned = ", with a warning" if done.warning else ""
@@ -108,8 +105,28 @@ def called(case, done):
         for value, name in VALUES:
             if same(done.samples, expected(case, value)):
                 return accepted(case, done, name)
-    if case.group == "axes" and stored_order(case, done):
-        return stored_order(case, done)
     if by_crate(case, done):
         return "crate rule"
     return apart(case, done)
+
+
+def lies(case, width, height, samples):
+    """How the document's picture lies in these samples, at either of the two values; none if they are no turning of it."""
+    for value, _ in VALUES:
+        for words, turning in TURNINGS.items():
+            picture = turning(expected(case, value).reshape(case.height, case.width, 3))
+            if picture.shape[:2] == (height, width) and same(samples, picture.reshape(-1)):
+                return words
+        if same(samples, value(case.stored, (1, len(case.pixels))).reshape(-1)):
+            return f"stored pixels in rows of {width}"
+    return None
+
+
+def laid(case, done):
+    """Words for how the picture lies, and how by the program's own turning where it tells an orientation."""
+    if done.how != "ok":
+        return called(case, done)
+    words = lies(case, done.width, done.height, done.samples) or called(case, done)
+    if done.turned:
+        words += f"; says orientation {done.turn}, its own turning gives it {lies(case, *done.turned) or 'otherwise'}"
+    return words

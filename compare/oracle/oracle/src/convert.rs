@@ -238,6 +238,7 @@ pub fn differences() {
         &after(b"#?RGBE\n\n+X 2 -Y 2\n", &four),
         12,
     );
+    print_read("+Y 1 +X 1: the rows from the bottom", &after(b"#?RGBE\n\n+Y 1 +X 1\n", &[128, 64, 32, 129]), 3);
     print_read("lower edge of the step", &after(b"#?RGBE\n\n-Y 1 +X 1\n", &[128, 64, 32, 129]), 3);
     print_read(
         "FORMAT xyze, EXPOSURE 2, unread",
