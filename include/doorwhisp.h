@@ -140,7 +140,7 @@ enum doorwhisp_colour {
 
 /*
  * How the rows of a file lie in its picture, by the axes in the order in which the header names them. The numbers are
- * those of the Orientation tag of TIFF and EXIF. The picture that is read is upright in any case.
+ * those of the Orientation tag of TIFF and EXIF. By the document the picture that is read is upright in each of them.
  */
 enum doorwhisp_orientation {
     DOORWHISP_MINUS_Y_PLUS_X = 1,  /* rows from the top, each from the left: the usual one, and as zune-hdr reads */

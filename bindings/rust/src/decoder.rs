@@ -228,7 +228,8 @@ impl<'a> HdrDecoder<'a> {
     }
 
     /// How the file's rows lie in the picture, once the header was read. By [`Reading::Crate`] it is always
-    /// [`Orientation::MinusYPlusX`]. The samples are those of the upright picture whatever it is.
+    /// [`Orientation::MinusYPlusX`], whichever axis the header names first. By [`Reading::Document`] the samples are those
+    /// of the upright picture, whatever it is.
     ///
     /// ```
     /// use doorwhisp::{DecoderOptions, HdrDecoder, Orientation, Reading};

@@ -5,7 +5,7 @@ use std::fmt;
 /// The eight ways in which the rows of a file lie in its picture, each named by the axes in the order in which the
 /// header names them. Its number is that of the Orientation tag of TIFF and EXIF: `Orientation::PlusXMinusY as u8` is 5.
 ///
-/// [`HdrDecoder`](crate::HdrDecoder) gives the picture upright in any case.
+/// By [`Reading::Document`](crate::Reading::Document) [`HdrDecoder`](crate::HdrDecoder) gives the picture upright in each of them.
 #[derive(Clone, Copy, Debug, PartialEq, Eq)]
 pub enum Orientation {
     /// `-Y +X`, the usual one: rows from the top, each from the left.
