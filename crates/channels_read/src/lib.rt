@@ -1,4 +1,6 @@
 // The four channels of a coded row.
+#![tactic(auto)]
+
 mod crate_part;
 mod document;
 mod fourth;

@@ -1,4 +1,6 @@
 // The scan of a channel: bytes that gather, written as literals or as a short run, and then a long run, or the end.
+#![tactic(auto)]
+
 ghost use Rattle.std.specs.Prelude.{◌≡◌, true, ◌+◌, ◌*◌, ◌<◌, ◌≤◌, length};
 ghost use Rattle.channels_written.specs.Channel.{channel};
 ghost use Rattle.channels_written.specs.Inner.{Four, FourEqual, Equal, Skip, Gathers, Stops, Front, Parted, one_run, part_of, first_part};

@@ -1,4 +1,6 @@
 // Light in decimal, exactly: a whole number over a power of two has as many decimals as the power has twos.
+#![tactic(auto)]
+
 pub mod leading;
 
 ghost use Rattle.std.specs.Prelude.{◌≡◌, ◌*◌, ◌/◌, ◌%◌, ◌≤◌, ◌<◌, length};

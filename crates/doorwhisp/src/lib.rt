@@ -1,4 +1,6 @@
 // The calls for programs in C and Rust.
+#![tactic(auto)]
+
 ghost use Rattle.steps.specs.declared.Reading.TheVariants.{Crate, Document};
 ghost use Rattle.doorwhisp.specs.Calls.{
   ReadHeader,

@@ -1,4 +1,6 @@
 // A flat part of a row.
+#![tactic(auto)]
+
 mod crate_part;
 mod document;
 

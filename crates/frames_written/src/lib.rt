@@ -1,3 +1,5 @@
 // The file of a frame: how long it is, and its bytes.
+#![tactic(auto)]
+
 pub mod frame;
 pub mod samples;

@@ -1,4 +1,6 @@
 // The header of a Radiance picture: read, and as it is written.
+#![tactic(auto)]
+
 mod written;
 
 ghost use Rattle.std.specs.Prelude.{◌≡◌, ◌≤◌, length};

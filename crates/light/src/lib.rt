@@ -1,4 +1,6 @@
 // The light of one pixel, as a reading shows it: its largest sample.
+#![tactic(auto)]
+
 ghost use Rattle.std.specs.Prelude.{◌≡◌, ◌*◌, ◌^◌, ◌≤◌, ◌<◌, max, ltb};
 ghost use Rattle.pixel.specs.Rgbe.{shift_of};
 ghost use Rattle.light.specs.Light.{light_of, top_of, is_black, is_masked, darker, brighter};

@@ -1,4 +1,6 @@
 // The eight numbers of an answer, as programs in C and Rust get them.
+#![tactic(auto)]
+
 ghost use Rattle.std.specs.Prelude.{◌≡◌};
 ghost use Rattle.steps.specs.Answer.{done};
 ghost use Rattle.header.specs.Head as header;

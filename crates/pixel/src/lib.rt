@@ -1,4 +1,6 @@
 // Four bytes to three samples and back.
+#![tactic(auto)]
+
 ghost use Rattle.std.specs.Prelude.{◌≡◌, false, ◌+◌, ◌/◌, ◌^◌, ◌<◌, ◌≤◌, max, T, length};
 ghost use Rattle.std.specs.Float.Ieee.{size};
 ghost use Rattle.pixel.specs.Units.{of_units, mag};

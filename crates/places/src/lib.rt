@@ -1,4 +1,6 @@
 // Where the pixels of a stored row lie in the picture.
+#![tactic(auto)]
+
 ghost use Rattle.std.specs.Prelude.{◌≡◌, ◌≤◌};
 ghost use Rattle.places.specs.Places.{axis_at, long_of, count_of};
 ghost use Rattle.places.specs.Inner.{line_of};

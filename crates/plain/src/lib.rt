@@ -1,4 +1,6 @@
 // A name as it is shown: a byte on which a terminal acts is a question mark.
+#![tactic(auto)]
+
 ghost use Rattle.std.specs.Prelude.{◌≡◌, ◌≤◌, length};
 ghost use Rattle.steps.specs.Place.{spread};
 ghost use Rattle.plain.specs.Plain.{acts, shown, plain_from};

@@ -1,4 +1,6 @@
 // The whole reader.
+#![tactic(auto)]
+
 mod samples;
 
 ghost use Rattle.std.specs.Prelude.{◌≡◌, ◌*◌, ◌≤◌, length};

@@ -1,4 +1,6 @@
 // Answers the lines of standard input, each by one line.
+#![tactic(auto)]
+
 mod answer;
 mod lines;
 mod names;

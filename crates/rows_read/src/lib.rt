@@ -1,4 +1,6 @@
 // One row of the input, read into the row store.
+#![tactic(auto)]
+
 mod kind;
 mod start;
 

@@ -1,4 +1,6 @@
 // The rows of a Radiance picture as they are written. A pixel is four bytes of px, and a channel one byte in four.
+#![tactic(auto)]
+
 mod channel;
 
 ghost use Rattle.std.specs.Prelude.{◌≡◌, ◌+◌, ◌*◌, ◌<◌, ◌≤◌, length};

@@ -1,4 +1,6 @@
 // What a person asks of a sky file: its sizes, its light, a chart of it, or a copy that is written anew.
+#![tactic(auto)]
+
 mod anew;
 mod ask;
 mod axes;

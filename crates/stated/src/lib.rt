@@ -1,4 +1,6 @@
 // What the lines of a header say: the colour kind and the exposure.
+#![tactic(auto)]
+
 mod number;
 mod product;
 mod rounded;

@@ -1,4 +1,6 @@
 // The small functions that every crate above uses.
+#![tactic(auto)]
+
 pub mod amount;
 pub mod refusal;
 

@@ -1,4 +1,6 @@
 // What is asked of a row's four-byte pixels by a reading: how many are black, how many show light at an exponent byte outside 97 to 159, and which are the darkest and the brightest.
+#![tactic(auto)]
+
 pub mod stops;
 
 ghost use Rattle.std.specs.Prelude.{◌≡◌, ◌+◌, ◌*◌, ◌<◌, ◌≤◌, true, length};

@@ -1,4 +1,6 @@
 // A field of a table that is a number: a tab, and its decimal digits.
+#![tactic(auto)]
+
 ghost use Rattle.std.specs.Prelude.{◌≡◌, ◌+◌, ◌≤◌, length};
 ghost use Rattle.steps.specs.Place.{spread};
 ghost use Rattle.table.specs.Table.{field_of};

@@ -1,4 +1,6 @@
 // A file of which only a part is at hand: its header, its rows, and the part moved on.
+#![tactic(auto)]
+
 mod head;
 
 ghost use Rattle.std.specs.Prelude.{◌≡◌, ◌-◌, ◌*◌, ◌≤◌, ◌&&◌, ◌++◌, length, drop, eqb, leb};

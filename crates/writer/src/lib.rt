@@ -1,4 +1,6 @@
 // The whole writer, and how long a frame is.
+#![tactic(auto)]
+
 mod checks;
 
 ghost use Rattle.std.specs.Prelude.{◌≡◌};
