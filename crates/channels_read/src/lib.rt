@@ -12,7 +12,7 @@ ghost use Rattle.channels_read.specs.Channels.{channels_of};
 use steps::{Reading, Taken};
 
 // Where a count and its bytes end: in the input, and in the channel.
-#[derive(Drop)]
+#[derive(Clone, Copy)]
 struct Span {
     next: usize,
     done: usize,

@@ -6,7 +6,7 @@ ghost use Rattle.channels_written.specs.Channel.{channel};
 ghost use Rattle.channels_written.specs.Inner.{Four, FourEqual, Equal, Skip, Gathers, Stops, Front, Parted, one_run, part_of, first_part};
 
 // How the front of a channel is written: so many literals, a short run, and a long run of so many bytes.
-#[derive(Drop)]
+#[derive(Clone, Copy)]
 pub struct Part {
     pub literals: usize,
     pub short: usize,

@@ -4,7 +4,7 @@ ghost use Rattle.decimal.specs.Leading.{Short, Leads};
 ghost use Rattle.decimal.specs.Inner.{digits_of, carried, carried_times};
 
 // The first nine digits of a number, and how many follow.
-#[derive(Drop)]
+#[derive(Clone, Copy)]
 pub struct Lead {
     pub digits: usize,
     pub more: usize,

@@ -8,7 +8,7 @@ ghost use Rattle.steps.specs.Place.{spread};
 ghost use Rattle.decimal.specs.Decimal.{Reduced, decimals_of};
 
 // The number m / 2^j.
-#[derive(Drop)]
+#[derive(Clone, Copy)]
 pub struct Ratio {
     pub m: usize,
     pub j: usize,

@@ -7,7 +7,7 @@ ghost use Rattle.flat_read.specs.Inner.{turn_of, Within};
 use steps::{Taken, refusal};
 
 // What a pixel of the part leads to: the place in the store, how many pixels are wanted and how many repeats stand directly ahead after it; or a refusal.
-#[derive(Drop)]
+#[derive(Clone, Copy)]
 pub(crate) enum Step {
     More {
         place: usize,

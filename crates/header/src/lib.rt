@@ -18,7 +18,7 @@ use words::{axes, fields, lines, sizes};
 pub use written::{length, put_digits, write};
 
 // What a header says, how the rows under it lie, and how many bytes it takes.
-#[derive(Drop)]
+#[derive(Clone, Copy)]
 pub struct Head {
     pub width: usize,
     pub height: usize,
@@ -39,7 +39,7 @@ impl Head {
 }
 
 // What reading a header answers.
-#[derive(Drop)]
+#[derive(Clone, Copy)]
 pub enum HeadAnswer {
     Read(Head),
     Refused(Refusal),

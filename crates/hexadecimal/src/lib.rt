@@ -8,7 +8,7 @@ ghost use Rattle.hexadecimal.specs.Digits.{worth, numeral_from};
 ghost use Rattle.hexadecimal.specs.Hex.{is_dash, count_of, bytes_read, samples_read};
 
 // A number that is written, or none.
-#[derive(Drop)]
+#[derive(Clone, Copy)]
 pub enum Number {
     Is(usize),
     Missing,

@@ -38,7 +38,7 @@ pub fn field_end(line: &[u8], at: usize) -> usize
 }
 
 // A number and the place where the next field starts, which is past the line's end where there is none.
-#[derive(Drop)]
+#[derive(Clone, Copy)]
 pub enum Step {
     Found { n: usize, next: usize },
     Nothing,
@@ -60,7 +60,7 @@ pub fn number_at(line: &[u8], at: usize) -> Step
 }
 
 // Two numbers and the place where the next field starts.
-#[derive(Drop)]
+#[derive(Clone, Copy)]
 pub enum Pair {
     Both { a: usize, b: usize, next: usize },
     Fewer,

@@ -25,7 +25,7 @@ ghost use Rattle.pixel.specs.declared.Rgbe.{Rgbe};
 use steps::Reading;
 
 // Three samples.
-#[derive(Drop)]
+#[derive(Clone, Copy)]
 pub struct Pixel {
     pub r: f32,
     pub g: f32,
@@ -33,7 +33,7 @@ pub struct Pixel {
 }
 
 // Three mantissas and the exponent byte.
-#[derive(Drop)]
+#[derive(Clone, Copy)]
 pub struct Rgbe {
     pub r: u8,
     pub g: u8,
@@ -42,7 +42,7 @@ pub struct Rgbe {
 }
 
 // What a pixel is written as: its bytes, or that it is too bright.
-#[derive(Drop)]
+#[derive(Clone, Copy)]
 pub enum Packed {
     Bytes(Rgbe),
     TooBright,

@@ -8,7 +8,7 @@ ghost use Rattle.places.specs.Inner.{line_of};
 use words::axes::Orientation;
 
 // The places of a stored row's pixels: that of the first, and how far on, or back, each next one lies.
-#[derive(Drop)]
+#[derive(Clone, Copy)]
 pub struct Line {
     pub first: usize,
     pub stride: usize,

@@ -18,7 +18,7 @@ use steps::refusal::Refusal;
 use steps::{Reading, Taken, amount, refusal};
 
 // What reading a file answers: what its header says and the count of bytes taken, or a refusal.
-#[derive(Drop)]
+#[derive(Clone, Copy)]
 pub enum ReadAnswer {
     Done(Head),
     Refused(Refusal),

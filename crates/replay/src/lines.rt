@@ -5,7 +5,7 @@ use crate::{answer, print};
 use libc::STDIN_FILENO;
 
 // What is kept between two chunks: how many bytes of the line, and how many of the page.
-#[derive(Drop)]
+#[derive(Clone, Copy)]
 pub(crate) struct Held {
     pub line: usize,
     pub put: usize,

@@ -2,7 +2,7 @@
 use steps::Reading;
 
 // The names of the cases.
-#[derive(Drop)]
+#[derive(Clone, Copy)]
 pub(crate) enum Name {
     Read(Reading),
     Head(Reading),

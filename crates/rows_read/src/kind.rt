@@ -3,7 +3,7 @@ ghost use Rattle.std.specs.Prelude.{◌≡◌, ◌+◌, ◌≤◌, length, get_o
 ghost use Rattle.rows_read.specs.Row.{is_flat_width, is_mark, kind_of};
 
 // How a row goes on: bytes are missing; it is flat from its first byte; pixel 0 is taken and the rest is flat; or four channels come.
-#[derive(Drop)]
+#[derive(Clone, Copy)]
 pub(crate) enum Kind {
     Missing,
     Flat,

@@ -10,7 +10,7 @@ use header::Head;
 use steps::Reading;
 
 // How the rows end, and what was written.
-#[derive(Drop)]
+#[derive(Clone, Copy)]
 pub(crate) struct Copied {
     pub outcome: Outcome,
     pub pen: Pen,

@@ -3,7 +3,7 @@ use crate::{brief, copy, info, kept, say, stops};
 use steps::Reading;
 
 // What the first word asks for.
-#[derive(Drop)]
+#[derive(Clone, Copy)]
 enum Command {
     Info,
     Stops,
@@ -126,7 +126,7 @@ fn help_more() {
 }
 
 // A word that stands before the names.
-#[derive(Drop)]
+#[derive(Clone, Copy)]
 enum Word {
     Crate,
     Brief,
@@ -147,7 +147,7 @@ fn word_at(i: usize) -> Word {
 }
 
 // What the words before the names ask for, and the place of the first name.
-#[derive(Drop)]
+#[derive(Clone, Copy)]
 struct Options {
     reading: Reading,
     brief: bool,
@@ -187,7 +187,7 @@ fn words_before() -> Options {
 }
 
 // What is said of each file.
-#[derive(Drop)]
+#[derive(Clone, Copy)]
 enum Form {
     Lines,
     Brief,
@@ -215,7 +215,7 @@ fn tell_word(
 }
 
 // How many files are whole, and how many are refused.
-#[derive(Drop)]
+#[derive(Clone, Copy)]
 struct Tally {
     whole: usize,
     refused: usize,

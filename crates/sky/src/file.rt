@@ -14,7 +14,7 @@ use steps::{Reading, refusal};
 use window::{HeadPart, RowPart};
 
 // What the window holds: the next byte to read, the end of its bytes, whether the file ends there, the number of a read that failed or 0, and how many bytes of the file lie before it.
-#[derive(Drop)]
+#[derive(Clone, Copy)]
 pub(crate) struct View {
     pub at: usize,
     pub end: usize,
@@ -80,7 +80,7 @@ fn moved_to(view: View, at: usize) -> View
 }
 
 // What opening a picture answers: its sizes and the window at its first row, or how it ends.
-#[derive(Drop)]
+#[derive(Clone, Copy)]
 pub(crate) enum Start {
     Sizes(Head, View),
     Ended(Outcome),
@@ -133,7 +133,7 @@ pub(crate) fn open(reading: Reading, fd: i32, bytes: &mut [u8; 2097152]) -> Star
 }
 
 // What reading a row answers: the window at the next row, or how the rows end.
-#[derive(Drop)]
+#[derive(Clone, Copy)]
 pub(crate) enum Step {
     Row(View),
     Ended(Outcome),

@@ -5,7 +5,7 @@ use steps::refusal;
 use steps::refusal::Refusal;
 
 // How the rows of a file end; a line of the header at fault is named by its place in the window.
-#[derive(Drop)]
+#[derive(Clone, Copy)]
 pub(crate) enum Outcome {
     Whole(View),
     Refused(Refusal),

@@ -10,7 +10,7 @@ use steps::Reading;
 use survey::Totals;
 
 // What the rows say, and how they end.
-#[derive(Drop)]
+#[derive(Clone, Copy)]
 pub(crate) struct Found {
     pub totals: Totals,
     pub length: usize,

@@ -15,7 +15,7 @@ use steps::{Reading, refusal};
 use words::{fields, lines};
 
 // The colours that a pixel's bytes stand for.
-#[derive(Drop)]
+#[derive(Clone, Copy)]
 pub enum Colour {
     Rgbe,
     Xyze,
@@ -23,21 +23,21 @@ pub enum Colour {
 }
 
 // The number by which the samples were multiplied, if the header says one.
-#[derive(Drop)]
+#[derive(Clone, Copy)]
 pub enum Exposure {
     Stated(f32),
     NotStated,
 }
 
 // What the lines say together.
-#[derive(Drop)]
+#[derive(Clone, Copy)]
 pub struct Said {
     pub colour: Colour,
     pub exposure: Exposure,
 }
 
 // What reading the lines answers.
-#[derive(Drop)]
+#[derive(Clone, Copy)]
 pub enum SaidAnswer {
     Heard(Said),
     Refused { number: u8 },

@@ -10,7 +10,7 @@ use words::sizes;
 use words::sizes::Size;
 
 // The power of ten that a line names.
-#[derive(Drop)]
+#[derive(Clone, Copy)]
 pub enum Power {
     Raised(usize),
     Lowered(usize),
@@ -18,7 +18,7 @@ pub enum Power {
 }
 
 // What a line says as an exposure: a number above zero, or none that can be read.
-#[derive(Drop)]
+#[derive(Clone, Copy)]
 pub enum Factor {
     Is(f32),
     Unread,

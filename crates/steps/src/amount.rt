@@ -2,7 +2,7 @@
 ghost use Rattle.std.specs.Prelude.{◌≡◌, ◌*◌, ◌+◌};
 ghost use Rattle.steps.specs.Amount.{amount_of};
 
-#[derive(Drop)]
+#[derive(Clone, Copy)]
 pub enum Amount {
     Number(usize),
     None,

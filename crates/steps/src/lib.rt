@@ -9,14 +9,14 @@ ghost use Rattle.steps.specs.Place.{spread, bytes_from};
 ghost use Rattle.steps.specs.Width.{is_coded};
 
 // How a file is read: as the crate zune-hdr reads it, or by the Radiance document.
-#[derive(Drop)]
+#[derive(Clone, Copy)]
 pub enum Reading {
     Crate,
     Document,
 }
 
 // What reading a row, or a part of one, answers: the next place in the input, or the number of the refusal that the row is at fault by.
-#[derive(Drop)]
+#[derive(Clone, Copy)]
 pub enum Taken {
     Done { next: usize },
     Fault { number: u8 },

@@ -1,7 +1,7 @@
 // The numbers of refusals (RULES 2.2), by name.
 
 // What a call that refuses answers: the number, and the row or pixel where the paper names one, else 0.
-#[derive(Drop)]
+#[derive(Clone, Copy)]
 pub struct Refusal {
     pub number: u8,
     pub place: usize,

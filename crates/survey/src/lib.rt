@@ -11,7 +11,7 @@ use pixel::Rgbe;
 use steps::Reading;
 
 // What was found so far. Before a pixel that shows light was met, the darkest and the brightest are 0, 0, 0, 0.
-#[derive(Drop)]
+#[derive(Clone, Copy)]
 pub struct Totals {
     pub black: usize,
     pub masked: usize,

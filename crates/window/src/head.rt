@@ -9,7 +9,7 @@ use steps::{Reading, refusal};
 use words::lines;
 
 // What reading a header answers: what it says; a refusal; or that it needs more than the part.
-#[derive(Drop)]
+#[derive(Clone, Copy)]
 pub enum HeadPart {
     Read(Head),
     Refused(Refusal),

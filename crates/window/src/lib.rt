@@ -21,7 +21,7 @@ fn reaches(more: bool, length: usize, end: usize) -> bool
 }
 
 // What reading a row answers: the next place; the number of a refusal; or that the row may need more than the part.
-#[derive(Drop)]
+#[derive(Clone, Copy)]
 pub enum RowPart {
     Read { next: usize },
     Fault { number: u8 },

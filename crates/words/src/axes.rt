@@ -5,7 +5,7 @@ ghost use Rattle.words.specs.Axes.{axis_of, with_x, with_y, axes_of};
 use crate::lines;
 
 // How the stored rows lie in the picture: whether X is named first, so that each is a column; whether Y runs upward; whether X runs leftward.
-#[derive(Drop)]
+#[derive(Clone, Copy)]
 pub struct Orientation {
     pub columns: bool,
     pub upward: bool,
@@ -13,7 +13,7 @@ pub struct Orientation {
 }
 
 // An axis as a field names it, by its letter and its sign.
-#[derive(Drop)]
+#[derive(Clone, Copy)]
 pub enum Axis {
     Y { upward: bool },
     X { leftward: bool },
@@ -21,7 +21,7 @@ pub enum Axis {
 }
 
 // What two fields name together.
-#[derive(Drop)]
+#[derive(Clone, Copy)]
 pub enum Axes {
     Named(Orientation),
     Other,

@@ -4,7 +4,7 @@ ghost use Rattle.words.specs.Sizes.{unsigned, number_from};
 ghost use Rattle.words.specs.Inner.{size_answer};
 
 // What a field says as a size.
-#[derive(Drop)]
+#[derive(Clone, Copy)]
 pub enum Size {
     Number(usize),
     NoNumber,

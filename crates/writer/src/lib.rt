@@ -21,7 +21,7 @@ use steps::refusal::Refusal;
 use steps::{amount, refusal};
 
 // What a call of the writer answers: the length of the file, or a refusal.
-#[derive(Drop)]
+#[derive(Clone, Copy)]
 pub enum WriteAnswer {
     Done(usize),
     Refused(Refusal),
