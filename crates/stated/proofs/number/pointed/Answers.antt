@@ -1,0 +1,6 @@
+-- `stated::number::pointed` meets its contract: the digits before the point, and those behind it.
+use Rattle.stated.proofs.Laws.Exposure.{point_read}
+use Rattle.stated.proofs.number.pointed.Goals as goal
+
+pub returns-clause-value : goal.returns-clause-value
+returns-clause-value c = search point_read
