@@ -117,8 +117,8 @@ channel_turns p q pre rest k (suc n) a b l =
     let here : k < length p = omega arith in
     let head : get_or (pre ++ (p ++ more)) (length pre + k) 0 ≡ get_or p k 0 = get_or-append-add pre (p ++ more) k 0 ∙ get_or-append p more 0 k here in
     let next : length pre + k + 4 ≡ length (pre ++ p) + k = omega (arith, length-append pre p) in
-    rw (append_assoc p (pixels q p n) rest)
-    (ap (λ (x : ℕ). x ∷ channel (pre ++ (p ++ more)) (length pre + k + 4) n) head
+    ap (λ (l : List ℕ). channel (pre ++ l) (length pre + k) (suc n)) (append_assoc p (pixels q p n) rest)
+    ∙ (ap (λ (x : ℕ). x ∷ channel (pre ++ (p ++ more)) (length pre + k + 4) n) head
     ∙ ap (λ (l : List ℕ). get_or p k 0 ∷ l)
     (ap (λ (i : ℕ). channel (pre ++ (p ++ more)) i n) next ∙ ap (λ (l : List ℕ). channel l (length (pre ++ p) + k) n) (sym (append_assoc pre p more)) ∙ channel_turns q p (pre ++ p) rest k n b a l))
 
