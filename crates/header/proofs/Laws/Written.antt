@@ -26,7 +26,7 @@ by_test k n false e = rw (e, digits_by)
 by_any : (j k n : ℕ) → n < j → n < k → digits_by j n ≡ digits_by k n
 by_any zero k n h l = absurd (not-suc-le-zero h)
 by_any (suc j) zero n h l = absurd (not-suc-le-zero l)
-by_any (suc j) (suc k) n h l = by_case (λ i j. by_any _ _ _ i j) (ltb n 10) refl
+by_any (suc j) (suc k) n h l = by_case (λ a b. by_any j k (n / 10) a b) (ltb n 10) refl
   where
     by_case : (n / 10 < j → n / 10 < k → digits_by j (n / 10) ≡ digits_by k (n / 10)) → (t : Bool) → ltb n 10 ≡ t → digits_by (suc j) n ≡ digits_by (suc k) n
     by_case rec true e = by_test j n true e ∙ sym (by_test k n true e)
