@@ -750,14 +750,14 @@ def built():
     os.mkdir(clone)
     os.mkdir(tools)
     for name in ("tools", "crates"):
-        shutil.copytree(os.path.join(TOP, name), os.path.join(clone, name))
+        shutil.copytree(os.path.join(TOP, name), os.path.join(clone, name), ignore=shutil.ignore_patterns("out"))
     for name in ("sky", "crates.txt", "bindings/rust/Cargo.toml"):
         os.makedirs(os.path.dirname(os.path.join(clone, name)), exist_ok=True)
         shutil.copy(os.path.join(TOP, name), os.path.join(clone, name))
-    keep("tools/rt", b"#!/bin/sh\necho built >>../built\nmkdir -p target/bin\ncp \"$PROGRAM\" target/bin/sky\n")
+    keep("tools/rt", b"#!/bin/sh\necho built >>../../../built\nmkdir -p out\ncp \"$PROGRAM\" out/sky\n")
     os.chmod(os.path.join(tools, "rt"), 0o755)
     kit = os.environ.get("RATTLE_HOME") or os.path.dirname(os.path.dirname(os.path.realpath(shutil.which("rt"))))
-    more = {**os.environ, "PATH": tools + ":" + os.environ["PATH"], "RATTLE_HOME": kit, "PROGRAM": os.path.join(TOP, "target/bin/sky")}
+    more = {**os.environ, "PATH": tools + ":" + os.environ["PATH"], "RATTLE_HOME": kit, "PROGRAM": os.path.join(TOP, "crates/sky/out/sky")}
 
     def start(what, status, builds, prefix=()):
         done = subprocess.run([*prefix, clone + "/sky", "help"], cwd="/", env=more, stdout=subprocess.PIPE, stderr=subprocess.PIPE)
