@@ -35,8 +35,8 @@ use Rattle.back.proofs.Laws.Weave.{bytes_four, weave, early_covered}
 
 -- ---- a row of four channels
 
-pub coded_width : (w : ℕ) → 8 ≤ w → w ≤ 32767 → false ≡ read.isFlatWidth w
-unfolding read.isFlatWidth
+pub coded_width : (w : ℕ) → 8 ≤ w → w ≤ 32767 → false ≡ read.is_flat_width w
+unfolding read.is_flat_width
 coded_width w l h = simp (width_coded w l h)
 
 -- the bytes c0, c1, c2 and c3 are read as the four channels of w pixels of px, the first at place p
@@ -163,8 +163,8 @@ flat_there rule px src p (suc n) at place store rest a e none r =
 
 -- ---- either row
 
-is_flat : (w : ℕ) → is_coded w ≡ false → true ≡ read.isFlatWidth w
-unfolding read.isFlatWidth
+is_flat : (w : ℕ) → is_coded w ≡ false → true ≡ read.is_flat_width w
+unfolding read.is_flat_width
 is_flat w e = simp e
 
 -- A row is read back: exactly its bytes are taken, and the pixels' bytes are in the first 4w places of the store, the rest of which is as
@@ -198,7 +198,7 @@ row_back parts fit px pre rest store p w none = go (is_coded w) refl
 -- ---- Either reading
 
 crate_covered : (src : List ℕ) (at : ℕ) (store px : List ℕ) (p w : ℕ) → 0 < w → Marked src at
-    → spread 1 (read.crateStart src at store) 0 (bytes_from px p (4 * w)) ≡ spread 1 store 0 (bytes_from px p (4 * w))
+    → spread 1 (read.crate_start src at store) 0 (bytes_from px p (4 * w)) ≡ spread 1 store 0 (bytes_from px p (4 * w))
 unfolding read.early
 crate_covered src at store px p w h marked = rw (← marked_start src at store marked) (by_two (eqb (get_or src at 0) 2) refl)
   where
@@ -216,7 +216,7 @@ start_covered Crate src at store px p w h marked = crate_covered src at store px
 start_covered Document src at store px p w h marked = rw (← marked_whole src at store marked)
 
 mark_right : (reading : Reading) (src : List ℕ) (at w : ℕ) → MarkAt src at w → read.mark_of reading src at w ≡ true
-unfolding read.documentMark
+unfolding read.document_mark
 mark_right Crate src at w mark = refl
 mark_right Document src at w mark = rw (mark.third, mark.fourth) (eq-eqb (w / 256 * 256 + w % 256) w (omega arith))
 

@@ -145,7 +145,7 @@ module _ (src : List ℕ) (a : Taken × List ℕ) where
       both_ordinary : (before : Option Rgbe) → is_old_run q ≡ false → Both src at store place (suc n) (onward (meaning before weight q) (suc n) (flat_from bytes)) a
       both_ordinary before t =
           let s : List ℕ = spread 1 store place (four q) in
-          let filled : s ≡ read.fourTo src at store place = ap (spread 1 store place) (sym same) ∙ sym (four_there src at store place room) in
+          let filled : s ≡ read.four_to src at store place = ap (spread 1 store place) (sym same) ∙ sym (four_there src at store place room) in
           let here : place + 4 - 4 ≡ place = omega arith in
           let means : onward (meaning before weight q) (suc n) (flat_from bytes) ≡ after (q ∷ []) (flat_from bytes (some q) 1 (suc n - 1)) =
           ap (λ (z : Option Meaning). onward z (suc n) (flat_from bytes)) (itself q before weight t) ∙ simp (le-leb 1 (suc n) (omega arith)) in
@@ -173,7 +173,7 @@ module _ (src : List ℕ) (a : Taken × List ℕ) where
         unfolding meaning
         means_copies = simp t
 
-        times : read.timesOf src (read.flat at place (suc n) repeats store) ≡ length ps
+        times : read.times_of src (read.flat at place (suc n) repeats store) ≡ length ps
         times = rw (byte 3 (omega arith), ← ew) (sym (length-replicate (q.e * weight) p))
 
         past_end : suc n < length ps → document_ones src (read.flat at place (suc n) repeats store) ≡ halt (Fault 14, store)
@@ -218,5 +218,5 @@ module _ (src : List ℕ) (a : Taken × List ℕ) where
       both_pixel (rgbe x y z l) bytes at e (both_goes bytes (at + 4) (next (rgbe x y z l) bytes at e)) place repeats store weight n h r before ew b (is_old_run (rgbe x y z l)) refl
 
 -- the whole flat part, from the start of the store
-pub flat_both : (src : List ℕ) (at : ℕ) (store : List ℕ) (w : ℕ) → 4 * w ≤ length store → Both src at store 0 w (flat w (drop at src)) (read.flatOf document_flat src at store 0 w)
+pub flat_both : (src : List ℕ) (at : ℕ) (store : List ℕ) (w : ℕ) → 4 * w ≤ length store → Both src at store 0 w (flat w (drop at src)) (read.flat_of document_flat src at store 0 w)
 flat_both src at store w h = both_goes src _ (drop at src) at refl 0 0 store none 1 w refl (omega arith) (omega arith) (flat_starts document_flat src at store 0 w)
