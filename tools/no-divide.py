@@ -1,11 +1,14 @@
-"""Looks for float divides in what tools/no-divide made: no-divide.py FOLDER
+"""Looks for float divides in what tools/no-divide made: no-divide.py FOLDER RLIBS
 
-There `links` are the archive's symbols and relocations, `code` its instructions, and each *.mir is a crate in the words that the compiler
-is given. Code is taken to reach all that it names, whether it calls it or not.
+There `links` are the archive's symbols and relocations, `code` its instructions, and each *.json is a library in the words that the compiler
+is given; those of the kit stand in RLIBS. Code is taken to reach all that it names, whether it calls it or not.
 Exit status: 0 no reading call reaches a float divide or a square root, 1 one does, or reaches code that is not there, 2 the calls or the
 code are not as expected.
 """
+import functools
 import glob
+import json
+import os
 import re
 import sys
 
@@ -16,9 +19,9 @@ WRITING = set(
 )
 # What a reading call may ask of the C library.
 OUTSIDE = {"memset"}
-# What is done with floats in the compiler's words, but for the divide and the remainder; they have no square root.
+# What is done with floats in the compiler's words, but for the divide, the remainder and the square root.
 HARMLESS = set(
-    """floatAdd floatSub floatMul floatNeg floatEq floatNe floatLt floatLe floatToInt floatToFloat floatToBits floatFromBits""".split()
+    """FloatAdd FloatSub FloatMul FloatNeg FloatEq FloatNe FloatLt FloatLe FloatToInt FloatToFloat FloatToBits FloatFromBits""".split()
 )
 
 
@@ -102,17 +105,44 @@ def archive(folder):
 # ---- The crates. A piece is a function.
 
 
-def crates(folder):
+def words_in(part, field=""):
+    """Each string of a part of a function, with the field whose value it is or begins; a field's own name has none."""
+    if isinstance(part, dict):
+        for name, value in part.items():
+            yield "", name
+            yield from words_in(value, name)
+    elif isinstance(part, list):
+        for i, value in enumerate(part):
+            yield from words_in(value, "" if i else field)
+    elif isinstance(part, str):
+        yield field, part
+
+
+def crates(folder, rlibs):
+    """The functions of our libraries, and those of the kit's that they reach."""
+    ours = {os.path.basename(path)[:-5]: path for path in glob.glob(f"{folder}/*.json")}
+
+    @functools.cache
+    def functions(crate):
+        path = ours.get(crate, f"{rlibs}/{crate}.rlib/toolchain/mir.json")
+        return dict(json.loads("\n".join(lines(path)))) if os.path.exists(path) else {}
+
     code = Code()
-    for path in sorted(glob.glob(f"{folder}/*.mir")):
-        text = re.sub(r'\(fnRef "[^"]+"\)\s*$', "", "\n".join(lines(path)))  # a program's text ends with the name of its start
-        for part in text.split('(fn-def "')[1:]:
-            name = code.piece(part[: part.index('"')])
-            found = [word for word in re.findall(r"\bfloat[A-Z]\w*", part) if word not in HARMLESS]
-            code.named[name] = set(re.findall(r'\b(?:fnRef|foreign) "([^"]+)"', part))
-            code.divides[name] = [(name, word) for word in found]
-            if name.startswith("doorwhisp::"):
-                code.calls[name.rpartition("::")[2]] = name
+    todo = [name for crate in sorted(ours) for name in functions(crate)]
+    seen = set(todo)
+    for name in todo:
+        code.piece(name)
+        for field, word in words_in(functions(name.partition("::")[0])[name]):
+            there = word in functions(word.partition("::")[0])
+            if there or field in ("Fn", "symbol"):
+                code.named[name].add(word)
+            if there and word not in seen:
+                seen.add(word)
+                todo.append(word)
+            if re.fullmatch(r"Float[A-Z]\w*", word) and word not in HARMLESS:
+                code.divides[name].append((name, word))
+        if name.startswith("doorwhisp::"):
+            code.calls[name.rpartition("::")[2]] = name
     return code
 
 
@@ -130,8 +160,8 @@ def told(what, code, ways):
     return len(bad) + sum(name in ways for name, _ in found)
 
 
-def main(folder):
-    built, written = archive(folder), crates(folder)
+def main(folder, rlibs):
+    built, written = archive(folder), crates(folder, rlibs)
     reading = sorted(set(built.calls) - WRITING)
     strange = built.unseen | WRITING - set(built.calls) | set(built.calls) - set(written.calls)
     if strange or not reading:
@@ -148,4 +178,4 @@ def main(folder):
 
 
 if __name__ == "__main__":
-    sys.exit(main(sys.argv[1]))
+    sys.exit(main(*sys.argv[1:]))
