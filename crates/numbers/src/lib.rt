@@ -113,7 +113,7 @@ fn refused(answer: &mut [u64; 8], refusal: Refusal)
 
 // What reading a header answers.
 pub fn head(answer: &mut [u64; 8], told: HeadAnswer)
-    ensures { answer.new ≡ numbers head_values (header.paperOf told) }
+    ensures { answer.new ≡ numbers head_values (header.paper_of told) }
 {
     match told {
         HeadAnswer::Read(head) => head_values(answer, head),
@@ -123,7 +123,7 @@ pub fn head(answer: &mut [u64; 8], told: HeadAnswer)
 
 // What reading a file answers.
 pub fn read(answer: &mut [u64; 8], told: ReadAnswer)
-    ensures { answer.new ≡ numbers head_values (reader.paperOf told) }
+    ensures { answer.new ≡ numbers head_values (reader.paper_of told) }
 {
     match told {
         ReadAnswer::Done(head) => head_values(answer, head),
@@ -133,7 +133,7 @@ pub fn read(answer: &mut [u64; 8], told: ReadAnswer)
 
 // What a call of the writer answers.
 pub fn written(answer: &mut [u64; 8], told: WriteAnswer)
-    ensures { answer.new ≡ numbers single (writer.paperOf told) }
+    ensures { answer.new ≡ numbers single (writer.paper_of told) }
 {
     match told {
         WriteAnswer::Done(n) => single(answer, n),
