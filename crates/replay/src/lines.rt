@@ -2,7 +2,7 @@
 ghost use Rattle.std.specs.Prelude.{◌≤◌, length};
 
 use crate::{answer, print};
-use libc::STDIN_FILENO;
+use std::io::Read;
 
 // What is kept between two chunks: how many bytes of the line, and how many of the page.
 #[derive(Clone, Copy)]
@@ -38,6 +38,7 @@ fn keep(line: &mut [u8], held: usize, chunk: &[u8], at: usize, end: usize) -> us
 
 // Answers a line. One that is full was too long.
 fn answer_held(
+    rt: &impl Print,
     line: &[u8],
     held: usize,
     bytes: &mut [u8],
@@ -50,15 +51,16 @@ fn answer_held(
     ensures { result ≤ 65536 }
 {
     if held == line.len() {
-        let p = print::unknown(page, put);
-        return print::byte(page, p, 10);
+        let p = print::unknown(rt, page, put);
+        return print::byte(rt, page, p, 10);
     }
-    let p = answer::line(&line[..held], bytes, samples, lent, page, put);
-    print::byte(page, p, 10)
+    let p = answer::line(rt, &line[..held], bytes, samples, lent, page, put);
+    print::byte(rt, page, p, 10)
 }
 
 // Answers the lines that end in a chunk.
 fn answer_chunk(
+    rt: &impl Print,
     chunk: &[u8],
     line: &mut [u8],
     bytes: &mut [u8],
@@ -79,23 +81,26 @@ fn answer_chunk(
         if end == chunk.len() {
             return Held { line: n, put };
         }
-        put = answer_held(line, n, bytes, samples, lent, page, put);
+        put = answer_held(rt, line, n, bytes, samples, lent, page, put);
         n = 0;
         at = end + 1;
     }
     Held { line: n, put }
 }
 
-// The next bytes of standard input; none at its end.
-fn read_some(chunk: &mut [u8]) -> usize
+// The next bytes of the input; none at its end, and none where it can't be read.
+fn read_some(input: &mut impl Read, chunk: &mut [u8]) -> usize
     ensures { result ≤ length chunk.new }
 {
-    let got = libc::read(STDIN_FILENO, chunk);
-    io::count(got, chunk)
+    match input.read(chunk) {
+        Ok(n) => n,
+        Err(_) => 0,
+    }
 }
 
 // Answers every line that ends in a line feed. Nothing says that the input ends, so the turns are counted, from a number that no run uses up.
 fn answer_chunks(
+    rt: &(impl Input + Print),
     chunk: &mut [u8],
     line: &mut [u8],
     bytes: &mut [u8],
@@ -105,14 +110,15 @@ fn answer_chunks(
 ) -> Held
     ensures { (result.line ≤ length line.new) × (result.put ≤ 65536) }
 {
+    let mut input = rt.reader();
     let mut held = Held { line: 0, put: 0 };
     let mut turns = u64::MAX;
     while 0 < turns {
-        let n = read_some(chunk);
+        let n = read_some(&mut input, chunk);
         if n == 0 {
             return held;
         }
-        held = answer_chunk(&chunk[..n], line, bytes, samples, lent, page, held);
+        held = answer_chunk(rt, &chunk[..n], line, bytes, samples, lent, page, held);
         turns -= 1;
     }
     held
@@ -120,6 +126,7 @@ fn answer_chunks(
 
 // Answers a last line that has no line feed, and writes out what is left on the page.
 fn answer_last(
+    rt: &impl Print,
     line: &[u8],
     bytes: &mut [u8],
     samples: &mut [f32],
@@ -132,15 +139,16 @@ fn answer_last(
     let n = held.line;
     let put = held.put;
     if n == 0 {
-        print::flush(page, put);
+        print::flush(rt, page, put);
         return;
     }
-    let p = answer_held(line, n, bytes, samples, lent, page, put);
-    print::flush(page, p);
+    let p = answer_held(rt, line, n, bytes, samples, lent, page, put);
+    print::flush(rt, page, p);
 }
 
 // Answers every line of standard input.
 pub(crate) fn answer_all(
+    rt: &(impl Input + Print),
     chunk: &mut [u8; 65536],
     line: &mut [u8; 1048576],
     bytes: &mut [u8; 524288],
@@ -148,6 +156,6 @@ pub(crate) fn answer_all(
     lent: &mut [u8; 524288],
     page: &mut [u8; 65536],
 ) {
-    let held = answer_chunks(chunk, line, bytes, samples, lent, page);
-    answer_last(line, bytes, samples, lent, page, held);
+    let held = answer_chunks(rt, chunk, line, bytes, samples, lent, page);
+    answer_last(rt, line, bytes, samples, lent, page, held);
 }

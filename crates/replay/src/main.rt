@@ -9,7 +9,7 @@ mod reads;
 mod writes;
 
 // What the program holds: a line of 1,048,575 bytes, and whatever such a line can write.
-fn main() {
+fn main(rt: HostRuntime) {
     let mut chunk = [0u8; 65536];
     let mut line = [0u8; 1048576];
     let mut bytes = [0u8; 524288];
@@ -17,6 +17,7 @@ fn main() {
     let mut lent = [0u8; 524288];
     let mut page = [0u8; 65536];
     lines::answer_all(
+        &rt,
         &mut chunk,
         &mut line,
         &mut bytes,

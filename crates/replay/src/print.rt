@@ -3,22 +3,20 @@ ghost use Rattle.std.specs.Prelude.{◌≡◌, true, ◌≤◌, ◌<◌, length}
 ghost use Rattle.std.specs.Float.{binary32};
 ghost use Rattle.std.specs.Float.Ieee.{eq, to_bits};
 
-use libc::STDOUT_FILENO;
-
-// Writes out the first `put` bytes of the page.
-pub(crate) fn flush(page: &[u8], put: usize)
+// Writes out the first `put` bytes of the page. Those of a write that fails are lost, and the program goes on.
+pub(crate) fn flush(rt: &impl Print, page: &[u8], put: usize)
     requires { put ≤ length page.now }
 {
-    io::write_all(STDOUT_FILENO, &page[..put]);
+    let _ = rt.write_all(&page[..put]);
 }
 
 // One byte more. Like all that follow, it answers how many bytes the page then has.
-pub(crate) fn byte(page: &mut [u8; 65536], put: usize, b: u8) -> usize
+pub(crate) fn byte(rt: &impl Print, page: &mut [u8; 65536], put: usize, b: u8) -> usize
     requires { put ≤ 65536 }
     ensures { result ≤ 65536 }
 {
     if put == 65536 {
-        flush(page, put);
+        flush(rt, page, put);
         page[0] = b;
         return 1;
     }
@@ -27,36 +25,36 @@ pub(crate) fn byte(page: &mut [u8; 65536], put: usize, b: u8) -> usize
 }
 
 // The bytes of a text.
-pub(crate) fn text(page: &mut [u8; 65536], put: usize, bytes: &[u8]) -> usize
+pub(crate) fn text(rt: &impl Print, page: &mut [u8; 65536], put: usize, bytes: &[u8]) -> usize
     requires { put ≤ 65536 }
     ensures { result ≤ 65536 }
 {
     let mut p = put;
     let mut i = 0;
     while i < bytes.len() {
-        p = byte(page, p, bytes[i]);
+        p = byte(rt, page, p, bytes[i]);
         i += 1;
     }
     p
 }
 
 // A number in decimal.
-pub(crate) fn decimal(page: &mut [u8; 65536], put: usize, n: usize) -> usize
+pub(crate) fn decimal(rt: &impl Print, page: &mut [u8; 65536], put: usize, n: usize) -> usize
     requires { put ≤ 65536 }
     ensures { result ≤ 65536 }
 {
     let mut digits = [0u8; 20];
     let k = io::decimal(n as u64, &mut digits);
-    text(page, put, &digits[..k])
+    text(rt, page, put, &digits[..k])
 }
 
 // A space and a number.
-pub(crate) fn next(page: &mut [u8; 65536], put: usize, n: usize) -> usize
+pub(crate) fn next(rt: &impl Print, page: &mut [u8; 65536], put: usize, n: usize) -> usize
     requires { put ≤ 65536 }
     ensures { result ≤ 65536 }
 {
-    let p = byte(page, put, 32);
-    decimal(page, p, n)
+    let p = byte(rt, page, put, 32);
+    decimal(rt, page, p, n)
 }
 
 // The digit that is worth d.
@@ -67,26 +65,26 @@ fn glyph(d: u8) -> u8
 }
 
 // A byte in hexadecimal.
-fn two(page: &mut [u8; 65536], put: usize, b: u8) -> usize
+fn two(rt: &impl Print, page: &mut [u8; 65536], put: usize, b: u8) -> usize
     requires { put ≤ 65536 }
     ensures { result ≤ 65536 }
 {
-    let p = byte(page, put, glyph(b / 16));
-    byte(page, p, glyph(b % 16))
+    let p = byte(rt, page, put, glyph(b / 16));
+    byte(rt, page, p, glyph(b % 16))
 }
 
 // A space and a byte string.
-pub(crate) fn bytes(page: &mut [u8; 65536], put: usize, values: &[u8]) -> usize
+pub(crate) fn bytes(rt: &impl Print, page: &mut [u8; 65536], put: usize, values: &[u8]) -> usize
     requires { put ≤ 65536 }
     ensures { result ≤ 65536 }
 {
-    let mut p = byte(page, put, 32);
+    let mut p = byte(rt, page, put, 32);
     if values.len() == 0 {
-        return byte(page, p, 45);
+        return byte(rt, page, p, 45);
     }
     let mut i = 0;
     while i < values.len() {
-        p = two(page, p, values[i]);
+        p = two(rt, page, p, values[i]);
         i += 1;
     }
     p
@@ -100,47 +98,53 @@ fn pattern(x: f32) -> u32
 }
 
 // A number's bit pattern in hexadecimal.
-pub(crate) fn eight(page: &mut [u8; 65536], put: usize, x: f32) -> usize
+pub(crate) fn eight(rt: &impl Print, page: &mut [u8; 65536], put: usize, x: f32) -> usize
     requires { put ≤ 65536 }
     ensures { result ≤ 65536 }
 {
     let bits = pattern(x);
-    let p = two(page, put, (bits / 16777216) as u8);
-    let q = two(page, p, (bits / 65536 % 256) as u8);
-    let r = two(page, q, (bits / 256 % 256) as u8);
-    two(page, r, (bits % 256) as u8)
+    let p = two(rt, page, put, (bits / 16777216) as u8);
+    let q = two(rt, page, p, (bits / 65536 % 256) as u8);
+    let r = two(rt, page, q, (bits / 256 % 256) as u8);
+    two(rt, page, r, (bits % 256) as u8)
 }
 
 // A space and a list of samples.
-pub(crate) fn samples(page: &mut [u8; 65536], put: usize, values: &[f32]) -> usize
+pub(crate) fn samples(rt: &impl Print, page: &mut [u8; 65536], put: usize, values: &[f32]) -> usize
     requires { put ≤ 65536 }
     ensures { result ≤ 65536 }
 {
-    let mut p = byte(page, put, 32);
+    let mut p = byte(rt, page, put, 32);
     if values.len() == 0 {
-        return byte(page, p, 45);
+        return byte(rt, page, p, 45);
     }
     let mut i = 0;
     while i < values.len() {
-        p = eight(page, p, values[i]);
+        p = eight(rt, page, p, values[i]);
         i += 1;
     }
     p
 }
 
 // The answer to a line that is of no form, or asks for more than the program holds.
-pub(crate) fn unknown(page: &mut [u8; 65536], put: usize) -> usize
+pub(crate) fn unknown(rt: &impl Print, page: &mut [u8; 65536], put: usize) -> usize
     requires { put ≤ 65536 }
     ensures { result ≤ 65536 }
 {
-    byte(page, put, 63)
+    byte(rt, page, put, 63)
 }
 
 // The number of a refusal and its place.
-pub(crate) fn refusal(page: &mut [u8; 65536], put: usize, number: u8, place: usize) -> usize
+pub(crate) fn refusal(
+    rt: &impl Print,
+    page: &mut [u8; 65536],
+    put: usize,
+    number: u8,
+    place: usize,
+) -> usize
     requires { put ≤ 65536 }
     ensures { result ≤ 65536 }
 {
-    let p = decimal(page, put, steps::wide(number));
-    next(page, p, place)
+    let p = decimal(rt, page, put, steps::wide(number));
+    next(rt, page, p, place)
 }

@@ -1,0 +1,10 @@
+-- `replay::reads::head` is safe and ends: the bytes that were read fit.
+use Rattle.line_fields.proofs.Laws.Filled.{front}
+use Rattle.hexadecimal.proofs.Laws.Hex.{bytes_fit}
+use Rattle.replay.proofs.reads.head.Goals as goal
+
+pub slice_bounds-answer_header-end : goal.slice_bounds-answer_header-end
+slice_bounds-answer_header-end g c = search bytes_fit
+
+pub slice_bounds-answer_header-end-in-Is : goal.slice_bounds-answer_header-end-in-Is
+slice_bounds-answer_header-end-in-Is g c = search (front, bytes_fit)
