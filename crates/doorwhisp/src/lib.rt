@@ -1,4 +1,4 @@
-// The calls for programs in C and Rust.
+// The calls for programs in C and Rust; `doorwhisp_c` exports them.
 #![tactic(auto)]
 
 ghost use Rattle.steps.specs.declared.Reading.TheVariants.{Crate, Document};
@@ -20,21 +20,14 @@ use pixel::{Packed, Pixel, Rgbe};
 use steps::{Reading, refusal};
 
 // Reads the header at the start of the bytes, as zune-hdr does.
-#[unsafe(no_mangle)]
-pub extern "C" fn doorwhisp_read_header(
-    bytes: &[u8],
-    widest: usize,
-    highest: usize,
-    answer: &mut [u64; 8],
-)
+pub fn doorwhisp_read_header(bytes: &[u8], widest: usize, highest: usize, answer: &mut [u64; 8])
     ensures { ReadHeader Crate bytes.now widest highest answer.new }
 {
     numbers::head(answer, header::read(Reading::Crate, bytes, widest, highest));
 }
 
 // The same by the Radiance document.
-#[unsafe(no_mangle)]
-pub extern "C" fn doorwhisp_read_document_header(
+pub fn doorwhisp_read_document_header(
     bytes: &[u8],
     widest: usize,
     highest: usize,
@@ -47,8 +40,7 @@ pub extern "C" fn doorwhisp_read_document_header(
 }
 
 // Reads a file's pixels into the output, by way of the row store, as zune-hdr does.
-#[unsafe(no_mangle)]
-pub extern "C" fn doorwhisp_read(
+pub fn doorwhisp_read(
     bytes: &[u8],
     widest: usize,
     highest: usize,
@@ -63,8 +55,7 @@ pub extern "C" fn doorwhisp_read(
 }
 
 // The same by the Radiance document.
-#[unsafe(no_mangle)]
-pub extern "C" fn doorwhisp_read_document(
+pub fn doorwhisp_read_document(
     bytes: &[u8],
     widest: usize,
     highest: usize,
@@ -79,50 +70,35 @@ pub extern "C" fn doorwhisp_read_document(
 }
 
 // How many samples a frame has.
-#[unsafe(no_mangle)]
-pub extern "C" fn doorwhisp_output_buffer_size(width: usize, height: usize, answer: &mut [u64; 8])
+pub fn doorwhisp_output_buffer_size(width: usize, height: usize, answer: &mut [u64; 8])
     ensures { OutputBufferSize width height answer.new }
 {
     numbers::amount(answer, reader::output_buffer_size(width, height));
 }
 
 // How long the file of a frame of samples is.
-#[unsafe(no_mangle)]
-pub extern "C" fn doorwhisp_length(
-    width: usize,
-    height: usize,
-    samples: &[f32],
-    answer: &mut [u64; 8],
-)
+pub fn doorwhisp_length(width: usize, height: usize, samples: &[f32], answer: &mut [u64; 8])
     ensures { Length width height samples.now answer.new }
 {
     numbers::written(answer, writer::length(width, height, samples));
 }
 
 // How long the file of a frame of four-byte pixels is.
-#[unsafe(no_mangle)]
-pub extern "C" fn doorwhisp_length4(
-    width: usize,
-    height: usize,
-    pixels: &[u8],
-    answer: &mut [u64; 8],
-)
+pub fn doorwhisp_length4(width: usize, height: usize, pixels: &[u8], answer: &mut [u64; 8])
     ensures { Length4 width height pixels.now answer.new }
 {
     numbers::written(answer, writer::length4(width, height, pixels));
 }
 
 // The length that no file of that width and height passes.
-#[unsafe(no_mangle)]
-pub extern "C" fn doorwhisp_worst(width: usize, height: usize, answer: &mut [u64; 8])
+pub fn doorwhisp_worst(width: usize, height: usize, answer: &mut [u64; 8])
     ensures { Worst width height answer.new }
 {
     numbers::written(answer, writer::worst(width, height));
 }
 
 // Writes the file of a frame of samples into the output.
-#[unsafe(no_mangle)]
-pub extern "C" fn doorwhisp_write(
+pub fn doorwhisp_write(
     width: usize,
     height: usize,
     samples: &[f32],
@@ -135,8 +111,7 @@ pub extern "C" fn doorwhisp_write(
 }
 
 // Writes the file of a frame of four-byte pixels into the output.
-#[unsafe(no_mangle)]
-pub extern "C" fn doorwhisp_write4(
+pub fn doorwhisp_write4(
     width: usize,
     height: usize,
     pixels: &[u8],
@@ -149,16 +124,14 @@ pub extern "C" fn doorwhisp_write4(
 }
 
 // The Rust's formula for the length of a file, which some files pass.
-#[unsafe(no_mangle)]
-pub extern "C" fn doorwhisp_expected_buffer_size(width: usize, height: usize, answer: &mut [u64; 8])
+pub fn doorwhisp_expected_buffer_size(width: usize, height: usize, answer: &mut [u64; 8])
     ensures { ExpectedBufferSize width height answer.new }
 {
     numbers::amount(answer, writer::expected_buffer_size(width, height));
 }
 
 // Four bytes to three samples, as zune-hdr does.
-#[unsafe(no_mangle)]
-pub extern "C" fn doorwhisp_pixel_from_bytes(r: u8, g: u8, b: u8, e: u8, samples: &mut [f32; 3])
+pub fn doorwhisp_pixel_from_bytes(r: u8, g: u8, b: u8, e: u8, samples: &mut [f32; 3])
     ensures { PixelFromBytes Crate r g b e samples.new }
 {
     let p = pixel::from_bytes(Reading::Crate, Rgbe { r, g, b, e });
@@ -166,14 +139,7 @@ pub extern "C" fn doorwhisp_pixel_from_bytes(r: u8, g: u8, b: u8, e: u8, samples
 }
 
 // The same by the Radiance document.
-#[unsafe(no_mangle)]
-pub extern "C" fn doorwhisp_document_pixel_from_bytes(
-    r: u8,
-    g: u8,
-    b: u8,
-    e: u8,
-    samples: &mut [f32; 3],
-)
+pub fn doorwhisp_document_pixel_from_bytes(r: u8, g: u8, b: u8, e: u8, samples: &mut [f32; 3])
     ensures { PixelFromBytes Document r g b e samples.new }
 {
     let p = pixel::from_bytes(Reading::Document, Rgbe { r, g, b, e });
@@ -181,8 +147,7 @@ pub extern "C" fn doorwhisp_document_pixel_from_bytes(
 }
 
 // Three samples to four bytes, and 0; or 12 where the pixel is too bright.
-#[unsafe(no_mangle)]
-pub extern "C" fn doorwhisp_pixel_to_bytes(r: f32, g: f32, b: f32, bytes: &mut [u8; 4]) -> u8
+pub fn doorwhisp_pixel_to_bytes(r: f32, g: f32, b: f32, bytes: &mut [u8; 4]) -> u8
     ensures { PixelToBytes r g b bytes.old result bytes.new }
 {
     let packed = pixel::to_bytes(Pixel { r, g, b });
