@@ -5,8 +5,11 @@ ghost use Rattle.sky.specs.Inner.{Held, Ended};
 use crate::file::{Step, View};
 use crate::outcome::Outcome;
 use crate::pen::Pen;
+use crate::system::System;
 use crate::{file, outcome, pen, say, stored};
 use header::Head;
+use std::fs::OpenFile;
+use std::io::{Read, Write};
 use steps::Reading;
 
 // How the rows end, and what was written.
@@ -18,7 +21,7 @@ pub(crate) struct Copied {
 
 // Writes the row that is in the store; the window stands behind it.
 fn write_row(
-    to: i32,
+    to: &mut impl Write,
     store: &[u8; 262140],
     room: &mut [u8; 524288],
     long: usize,
@@ -42,8 +45,8 @@ fn write_row(
 // Reads the row k and writes it anew.
 fn copy_row(
     reading: Reading,
-    fd: i32,
-    to: i32,
+    input: &mut impl Read,
+    to: &mut impl Write,
     bytes: &mut [u8; 2097152],
     store: &mut [u8; 262140],
     room: &mut [u8; 524288],
@@ -57,7 +60,7 @@ fn copy_row(
     ensures ended { Ended result.outcome }
     ensures put_bound { result.pen.put ≤ 262144 }
 {
-    let step = file::next_row(reading, fd, bytes, store, long, k, view);
+    let step = file::next_row(reading, input, bytes, store, long, k, view);
     match step {
         Step::Row(next) => write_row(to, store, room, long, next, pen),
         Step::Ended(outcome) => Copied { outcome, pen },
@@ -66,9 +69,10 @@ fn copy_row(
 
 // Reads the rows one by one and writes each anew.
 fn copy_rows(
+    rt: &impl System,
     reading: Reading,
-    fd: i32,
-    to: i32,
+    input: &mut impl Read,
+    to: &mut impl Write,
     bytes: &mut [u8; 2097152],
     store: &mut [u8; 262140],
     room: &mut [u8; 524288],
@@ -91,17 +95,17 @@ fn copy_rows(
         let Outcome::Whole(v) = outcome else {
             return Copied { outcome, pen };
         };
-        let copied = copy_row(reading, fd, to, bytes, store, room, long, k, v, pen);
+        let copied = copy_row(reading, input, to, bytes, store, room, long, k, v, pen);
         outcome = copied.outcome;
         pen = copied.pen;
-        say::progress(shown, k, count);
+        say::progress(rt, shown, k, count);
         k += 1;
     }
     Copied { outcome, pen }
 }
 
 // Writes out what is left of a whole file, down to the disk.
-fn finish(to: i32, room: &[u8; 524288], copied: Copied) -> Copied
+fn finish(to: &mut (impl Write + OpenFile), room: &[u8; 524288], copied: Copied) -> Copied
     requires put_bound { copied.pen.put ≤ 262144 }
     requires ended { Ended copied.outcome }
     ensures { Ended result.outcome }
@@ -110,7 +114,7 @@ fn finish(to: i32, room: &[u8; 524288], copied: Copied) -> Copied
     let last = copied.pen;
     if outcome::is_whole(outcome) {
         let pen = pen::flush(to, room, last);
-        if pen.failed || libc::fsync(to) != 0 {
+        if pen.failed || to.sync_all().is_err() {
             let outcome = Outcome::Unwritten;
             return Copied { outcome, pen };
         }
@@ -121,9 +125,10 @@ fn finish(to: i32, room: &[u8; 524288], copied: Copied) -> Copied
 
 // Writes the header as it is, which the window starts with, and the rows.
 pub(crate) fn copy_all(
+    rt: &impl System,
     reading: Reading,
-    fd: i32,
-    to: i32,
+    input: &mut impl Read,
+    to: &mut (impl Write + OpenFile),
     bytes: &mut [u8; 2097152],
     store: &mut [u8; 262140],
     room: &mut [u8; 524288],
@@ -138,7 +143,7 @@ pub(crate) fn copy_all(
     steps::clear(store, 4 * stored::long(head));
     let start = pen::keep_header(to, bytes, head.taken);
     let copied = copy_rows(
-        reading, fd, to, bytes, store, room, head, view, shown, start,
+        rt, reading, input, to, bytes, store, room, head, view, shown, start,
     );
     finish(to, room, copied)
 }

@@ -4,72 +4,81 @@ ghost use Rattle.sky.specs.Inner.{Held};
 
 use crate::file::{Start, View};
 use crate::outcome::Outcome;
-use crate::{axes, file, lit, outcome, rows, said, say, stored};
+use crate::system::System;
+use crate::{axes, file, lit, outcome, rows, said, say, stored, system};
 use header::Head;
+use std::io::Read;
 use steps::Reading;
 use survey::Totals;
 
 // The names of the fields.
-pub(crate) fn names() {
-    say::text(b"status\tnumber\trow\twidth\theight\tdarkest pixel\tbrightest pixel\t");
-    say::text(b"black pixels\toutside 97-159\tbytes after\tcolour\texposure\torientation\tfile\n");
+pub(crate) fn names(rt: &impl Print) {
+    say::text(
+        rt,
+        b"status\tnumber\trow\twidth\theight\tdarkest pixel\tbrightest pixel\t",
+    );
+    say::text(
+        rt,
+        b"black pixels\toutside 97-159\tbytes after\tcolour\texposure\torientation\tfile\n",
+    );
 }
 
 // How many files are whole and how many are not, on standard error.
-pub(crate) fn end(whole: usize, refused: usize) {
-    say::aside(b"sky: ", whole);
-    say::aside(b" whole, ", refused);
-    say::aside_text(b" refused\n");
+pub(crate) fn end(rt: &impl System, whole: usize, refused: usize) {
+    say::aside(rt, b"sky: ", whole);
+    say::aside(rt, b" whole, ", refused);
+    say::aside_text(rt, b" refused\n");
 }
 
 // The fields of what the header states, and the tab before the name.
-fn say_stated(reading: Reading, head: Head) {
+fn say_stated(rt: &impl Print, reading: Reading, head: Head) {
     let colour = head.colour;
     let exposure = head.exposure;
-    said::say_fields(colour, exposure);
+    said::say_fields(rt, colour, exposure);
     let o = head.orientation;
-    axes::say_field(reading, o);
-    say::text(b"\t");
+    axes::say_field(rt, reading, o);
+    say::text(rt, b"\t");
 }
 
 // The fields of a file that is refused; its sizes are not known.
-fn say_refused(outcome: Outcome) {
-    say::text(b"refused\t");
-    outcome::say_brief(outcome);
-    say::text(b"\t-\t-\t-\t-\t-\t-\t-\t-\t-\t-\t");
+fn say_refused(rt: &impl Print, outcome: Outcome) {
+    say::text(rt, b"refused\t");
+    outcome::say_brief(rt, outcome);
+    say::text(rt, b"\t-\t-\t-\t-\t-\t-\t-\t-\t-\t-\t");
 }
 
 // The fields of a file whose rows end too early.
-fn say_cut(reading: Reading, head: Head, outcome: Outcome) {
-    say::text(b"refused\t");
-    outcome::say_brief(outcome);
-    say::tab(head.width);
-    say::tab(head.height);
-    say::text(b"\t-\t-\t-\t-\t-");
-    say_stated(reading, head);
+fn say_cut(rt: &impl Print, reading: Reading, head: Head, outcome: Outcome) {
+    say::text(rt, b"refused\t");
+    outcome::say_brief(rt, outcome);
+    say::tab(rt, head.width);
+    say::tab(rt, head.height);
+    say::text(rt, b"\t-\t-\t-\t-\t-");
+    say_stated(rt, reading, head);
 }
 
 // The fields of a file that is whole.
-fn say_found(reading: Reading, head: Head, totals: Totals, after: usize) {
+fn say_found(rt: &impl Print, reading: Reading, head: Head, totals: Totals, after: usize) {
     let darkest = totals.darkest;
     let brightest = totals.brightest;
-    say::text(b"whole\t-\t-");
-    say::tab(head.width);
-    say::tab(head.height);
-    say::text(b"\t");
-    lit::say_brief(reading, darkest);
-    say::text(b"\t");
-    lit::say_brief(reading, brightest);
-    say::tab(totals.black);
-    say::tab(totals.masked);
-    say::tab(after);
-    say_stated(reading, head);
+    say::text(rt, b"whole\t-\t-");
+    say::tab(rt, head.width);
+    say::tab(rt, head.height);
+    say::text(rt, b"\t");
+    lit::say_brief(rt, reading, darkest);
+    say::text(rt, b"\t");
+    lit::say_brief(rt, reading, brightest);
+    say::tab(rt, totals.black);
+    say::tab(rt, totals.masked);
+    say::tab(rt, after);
+    say_stated(rt, reading, head);
 }
 
 // Reads the rows of a picture, says its fields, and answers whether it is whole.
 fn tell_rows(
+    rt: &impl System,
     reading: Reading,
-    fd: i32,
+    input: &mut impl Read,
     bytes: &mut [u8; 2097152],
     store: &mut [u8; 262140],
     head: Head,
@@ -79,16 +88,16 @@ fn tell_rows(
     requires width_bound { (head.width ≤ 65535) × (head.height ≤ 65535) }
 {
     steps::clear(store, 4 * stored::long(head));
-    let found = rows::read_rows(reading, fd, bytes, store, head, view, false);
+    let found = rows::read_rows(rt, reading, input, bytes, store, head, view, false);
     let outcome = found.outcome;
     match outcome {
         Outcome::Whole(v) => {
             let totals = found.totals;
-            say_found(reading, head, totals, file::after(fd, bytes, v));
+            say_found(rt, reading, head, totals, file::after(input, bytes, v));
             true
         }
         _ => {
-            say_cut(reading, head, outcome);
+            say_cut(rt, reading, head, outcome);
             false
         }
     }
@@ -96,16 +105,17 @@ fn tell_rows(
 
 // Says the fields of an open file, and answers whether it is whole.
 fn tell_open(
+    rt: &impl System,
     reading: Reading,
-    fd: i32,
+    input: &mut impl Read,
     bytes: &mut [u8; 2097152],
     store: &mut [u8; 262140],
 ) -> bool {
-    let start = file::open(reading, fd, bytes);
+    let start = file::open(reading, input, bytes);
     match start {
-        Start::Sizes(head, view) => tell_rows(reading, fd, bytes, store, head, view),
+        Start::Sizes(head, view) => tell_rows(rt, reading, input, bytes, store, head, view),
         Start::Ended(outcome) => {
-            say_refused(outcome);
+            say_refused(rt, outcome);
             false
         }
     }
@@ -113,30 +123,32 @@ fn tell_open(
 
 // Says the fields of a file of that name, and answers whether it is whole.
 fn tell_fields(
+    rt: &impl System,
     reading: Reading,
     name: &[u8],
     bytes: &mut [u8; 2097152],
     store: &mut [u8; 262140],
 ) -> bool {
-    let fd = os::open_read(name);
-    if fd < 0 {
-        say_refused(Outcome::Unreadable { error: os::errno() });
-        return false;
+    let opened = system::open_read(rt, name);
+    match opened {
+        Ok(mut input) => tell_open(rt, reading, &mut input, bytes, store),
+        Err(error) => {
+            say_refused(rt, Outcome::Unreadable { error });
+            false
+        }
     }
-    let ok = tell_open(reading, fd, bytes, store);
-    libc::close(fd);
-    ok
 }
 
 // Says what a file holds in a line, and answers whether it is whole.
 pub(crate) fn tell(
+    rt: &impl System,
     reading: Reading,
     name: &[u8],
     bytes: &mut [u8; 2097152],
     store: &mut [u8; 262140],
 ) -> bool {
-    let ok = tell_fields(reading, name, bytes, store);
-    say::name(name);
-    say::text(b"\n");
+    let ok = tell_fields(rt, reading, name, bytes, store);
+    say::name(rt, name);
+    say::text(rt, b"\n");
     ok
 }

@@ -49,11 +49,11 @@ pub(crate) fn refused(bytes: &[u8], number: u8) -> Outcome {
 
 // How many lines end in some bytes.
 fn line_count(bytes: &[u8]) -> usize {
-    let mut n = 0;
+    let mut n = 0usize;
     let mut i = 0;
     while i < bytes.len() {
         if bytes[i] == 10 {
-            n = std::num::wrapping_add_usize(n, 1);
+            n = n.wrapping_add(1);
         }
         i += 1;
     }
@@ -77,13 +77,13 @@ fn put(line: &[u8], n: usize, out: &mut [u8])
 }
 
 // The text of a line; two points where it goes on.
-fn say_text(line: &[u8]) {
+fn say_text(rt: &impl Print, line: &[u8]) {
     let mut out = [0u8; 60];
     let n = steps::least(line.len(), 60);
     put(line, n, &mut out);
-    say::first(&out, n);
+    say::first(rt, &out, n);
     if n < line.len() {
-        say::text(b"..");
+        say::text(rt, b"..");
     }
 }
 
@@ -91,27 +91,27 @@ fn say_text(line: &[u8]) {
 fn place_of(bytes: &[u8], at: usize) -> usize
     requires { at ≤ length bytes.now }
 {
-    std::num::wrapping_add_usize(line_count(&bytes[..at]), 1)
+    line_count(&bytes[..at]).wrapping_add(1)
 }
 
 // The number of a refusal, the line at fault, and the sentence.
-fn say_line(bytes: &[u8], number: u8, at: usize, end: usize) {
+fn say_line(rt: &impl Print, bytes: &[u8], number: u8, at: usize, end: usize) {
     let to = steps::least(end, bytes.len());
     let from = steps::least(at, to);
-    outcome::say_number(number);
-    say::text(b" in line ");
-    say::number(place_of(bytes, from));
-    say::text(b" (");
-    say_text(trim(&bytes[from..to]));
-    say::text(b"): ");
-    outcome::sentence(number);
-    say::text(b"\n");
+    outcome::say_number(rt, number);
+    say::text(rt, b" in line ");
+    say::number(rt, place_of(bytes, from));
+    say::text(rt, b" (");
+    say_text(rt, trim(&bytes[from..to]));
+    say::text(rt, b"): ");
+    outcome::sentence(rt, number);
+    say::text(rt, b"\n");
 }
 
 // Why a header was refused; it stands in the bytes.
-pub(crate) fn say_outcome(bytes: &[u8], outcome: Outcome) {
+pub(crate) fn say_outcome(rt: &impl Print, bytes: &[u8], outcome: Outcome) {
     match outcome {
-        Outcome::Line { number, at, end } => say_line(bytes, number, at, end),
-        _ => outcome::say_outcome(outcome),
+        Outcome::Line { number, at, end } => say_line(rt, bytes, number, at, end),
+        _ => outcome::say_outcome(rt, outcome),
     }
 }

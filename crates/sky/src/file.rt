@@ -8,7 +8,7 @@ ghost use Rattle.sky.specs.Inner.{Held, Started, Stepped};
 use crate::outcome::Outcome;
 use crate::{fill, flaw};
 use header::Head;
-use libc::{SEEK_END, SEEK_SET};
+use std::io::{Read, Seek, SeekFrom};
 use steps::refusal::Refusal;
 use steps::{Reading, refusal};
 use window::{HeadPart, RowPart};
@@ -24,7 +24,7 @@ pub(crate) struct View {
 }
 
 // The window moved on, so that it starts at the next byte.
-fn refill(fd: i32, bytes: &mut [u8; 2097152], view: View) -> View
+fn refill(input: &mut impl Read, bytes: &mut [u8; 2097152], view: View) -> View
     requires { Held view }
     ensures { Held result }
 {
@@ -34,20 +34,20 @@ fn refill(fd: i32, bytes: &mut [u8; 2097152], view: View) -> View
         end: view.end - view.at,
         over: view.over,
         error: view.error,
-        before: std::num::wrapping_add_usize(view.before, view.at),
+        before: view.before.wrapping_add(view.at),
     };
-    fill::fill(fd, bytes, moved)
+    fill::fill(input, bytes, moved)
 }
 
 // At least 1 MiB from the next byte on, or the rest of the file.
-fn ahead(fd: i32, bytes: &mut [u8; 2097152], view: View) -> View
+fn ahead(input: &mut impl Read, bytes: &mut [u8; 2097152], view: View) -> View
     requires { Held view }
     ensures { Held result }
 {
     if view.over || 1048576 <= view.end - view.at {
         return view;
     }
-    refill(fd, bytes, view)
+    refill(input, bytes, view)
 }
 
 // Where the part ends that is looked at: 1 MiB on, or with the bytes that are held.
@@ -108,18 +108,24 @@ fn head_in(reading: Reading, bytes: &[u8], end: usize, more: bool) -> HeadPart
     window::read_header(reading, &bytes[..end], more)
 }
 
-// Reads the header of a file, by a reading.
-pub(crate) fn open(reading: Reading, fd: i32, bytes: &mut [u8; 2097152]) -> Start
-    ensures { Started result }
+// Before the first read.
+fn nothing() -> View
+    ensures { Held result }
 {
-    let nothing = View {
+    View {
         at: 0,
         end: 0,
         over: false,
         error: 0,
         before: 0,
-    };
-    let view = fill::fill(fd, bytes, nothing);
+    }
+}
+
+// Reads the header of a file, by a reading.
+pub(crate) fn open(reading: Reading, input: &mut impl Read, bytes: &mut [u8; 2097152]) -> Start
+    ensures { Started result }
+{
+    let view = fill::fill(input, bytes, nothing());
     if view.error != 0 {
         return Start::Ended(Outcome::Unreadable { error: view.error });
     }
@@ -158,7 +164,7 @@ fn row_in(
 // Reads the row k into the row store.
 pub(crate) fn next_row(
     reading: Reading,
-    fd: i32,
+    input: &mut impl Read,
     bytes: &mut [u8; 2097152],
     store: &mut [u8; 262140],
     long: usize,
@@ -169,7 +175,7 @@ pub(crate) fn next_row(
     requires long_bound { long ≤ 65535 }
     ensures { Stepped result }
 {
-    let v = ahead(fd, bytes, view);
+    let v = ahead(input, bytes, view);
     if v.error != 0 {
         return Step::Ended(Outcome::Unreadable { error: v.error });
     }
@@ -184,11 +190,11 @@ pub(crate) fn next_row(
 
 // How many bytes of the file were taken.
 pub(crate) fn taken(view: View) -> usize {
-    std::num::wrapping_add_usize(view.before, view.at)
+    view.before.wrapping_add(view.at)
 }
 
 // How many bytes of the file come after them: it is read to its end.
-pub(crate) fn after(fd: i32, bytes: &mut [u8; 2097152], view: View) -> usize
+pub(crate) fn after(input: &mut impl Read, bytes: &mut [u8; 2097152], view: View) -> usize
     requires { Held view }
 {
     let mut n = view.end - view.at;
@@ -197,19 +203,22 @@ pub(crate) fn after(fd: i32, bytes: &mut [u8; 2097152], view: View) -> usize
     }
     let mut turns = u64::MAX;
     while 0 < turns {
-        let got = io::read_full(fd, bytes);
+        let got = fill::fill(input, bytes, nothing()).end;
         if got == 0 {
             return n;
         }
-        n = std::num::wrapping_add_usize(n, got);
+        n = n.wrapping_add(got);
         turns -= 1;
     }
     n
 }
 
 // Whether a file is over 4 MiB, so that progress is shown. One that has no length is not.
-pub(crate) fn is_large(fd: i32) -> bool {
-    let length = libc::lseek(fd, 0, SEEK_END);
-    libc::lseek(fd, 0, SEEK_SET);
-    4194304 < length
+pub(crate) fn is_large(input: &mut impl Seek) -> bool {
+    let length = input.seek(SeekFrom::End(0));
+    let _ = input.seek(SeekFrom::Start(0));
+    match length {
+        Ok(n) => 4194304 < n,
+        Err(_) => false,
+    }
 }

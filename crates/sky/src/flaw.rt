@@ -11,10 +11,10 @@ use words::{lines, sizes};
 
 // Whether the first line is right but for a carriage return at its end.
 fn is_first_returned(line: &[u8]) -> bool {
-    if check::same(line, b"#?RADIANCE\r\n") {
+    if line == b"#?RADIANCE\r\n".as_slice() {
         return true;
     }
-    check::same(line, b"#?RGBE\r\n")
+    line == b"#?RGBE\r\n".as_slice()
 }
 
 // Whether, before an empty line, there is one of a carriage return alone.
@@ -23,10 +23,10 @@ fn has_returned_line(bytes: &[u8]) -> bool {
     let mut turns = bytes.len();
     while 0 < turns {
         let end = lines::past(bytes, p, 10);
-        if check::same(&bytes[p..end], b"\r\n") {
+        if &bytes[p..end] == b"\r\n".as_slice() {
             return true;
         }
-        if check::same(&bytes[p..end], b"\n") {
+        if &bytes[p..end] == b"\n".as_slice() {
             return false;
         }
         p = end;

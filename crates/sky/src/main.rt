@@ -21,16 +21,17 @@ mod said;
 mod say;
 mod stops;
 mod stored;
+mod system;
 
 // What the program holds: a window of 2 MiB on the file, the longest row, and room for what is written.
-fn main() {
+fn main(rt: HostRuntime) {
     let mut bytes = [0u8; 2097152];
     let mut store = [0u8; 262140];
     let mut room = [0u8; 524288];
-    let ok = ask::answer(&mut bytes, &mut store, &mut room);
+    let ok = ask::answer(&rt, &mut bytes, &mut store, &mut room);
     if ok {
-        say::text(b"ok\n");
+        say::text(&rt, b"ok\n");
     } else {
-        say::text(b"refused\n");
+        say::text(&rt, b"refused\n");
     }
 }

@@ -1,6 +1,8 @@
 // What is written of a file: rows are gathered in a room, which is written out when it is half full.
 ghost use Rattle.std.specs.Prelude.{◌≤◌, length};
 
+use std::io::Write;
+
 // How many bytes stand in the room and are not yet written, how many are written, and whether a write failed.
 #[derive(Clone, Copy)]
 pub(crate) struct Pen {
@@ -10,15 +12,15 @@ pub(crate) struct Pen {
 }
 
 // Writes out what stands in the room.
-pub(crate) fn flush(to: i32, room: &[u8], pen: Pen) -> Pen
+pub(crate) fn flush(to: &mut impl Write, room: &[u8], pen: Pen) -> Pen
     requires { pen.put ≤ length room.now }
     ensures { result.put ≤ 262144 }
 {
     let n = pen.put;
-    let ok = io::write_all(to, &room[..n]);
+    let ok = to.write_all(&room[..n]).is_ok();
     Pen {
         put: 0,
-        written: std::num::wrapping_add_usize(pen.written, n),
+        written: pen.written.wrapping_add(n),
         failed: pen.failed || !ok,
     }
 }
@@ -33,7 +35,7 @@ fn write_row(store: &[u8; 262140], long: usize, room: &mut [u8; 524288], put: us
 
 // Writes the row of the store: the room is written out when it is half full.
 pub(crate) fn put_row(
-    to: i32,
+    to: &mut impl Write,
     store: &[u8; 262140],
     long: usize,
     room: &mut [u8; 524288],
@@ -54,11 +56,11 @@ pub(crate) fn put_row(
 }
 
 // Writes the header as it stands at the start of the bytes.
-pub(crate) fn keep_header(to: i32, bytes: &[u8], taken: usize) -> Pen
+pub(crate) fn keep_header(to: &mut impl Write, bytes: &[u8], taken: usize) -> Pen
     requires { taken ≤ length bytes.now }
     ensures { result.put ≤ 262144 }
 {
-    let ok = io::write_all(to, &bytes[..taken]);
+    let ok = to.write_all(&bytes[..taken]).is_ok();
     Pen {
         put: 0,
         written: taken,

@@ -4,8 +4,10 @@ ghost use Rattle.sky.specs.Inner.{Held, Ended};
 
 use crate::file::{Step, View};
 use crate::outcome::Outcome;
+use crate::system::System;
 use crate::{file, say, stored};
 use header::Head;
+use std::io::Read;
 use steps::Reading;
 use survey::Totals;
 
@@ -43,7 +45,7 @@ fn with_row(reading: Reading, store: &[u8; 262140], long: usize, view: View, fou
 // Reads the row k.
 fn read_row(
     reading: Reading,
-    fd: i32,
+    input: &mut impl Read,
     bytes: &mut [u8; 2097152],
     store: &mut [u8; 262140],
     long: usize,
@@ -57,7 +59,7 @@ fn read_row(
     ensures black_bound { (result.totals.black ≤ found.totals.black + 65535) × (result.totals.masked ≤ found.totals.masked + 65535) × (result.length ≤ found.length + 262144) }
 {
     let totals = found.totals;
-    let step = file::next_row(reading, fd, bytes, store, long, k, view);
+    let step = file::next_row(reading, input, bytes, store, long, k, view);
     match step {
         Step::Row(next) => with_row(reading, store, long, next, found),
         Step::Ended(outcome) => Found {
@@ -83,8 +85,9 @@ fn nothing(view: View) -> Found
 
 // Reads the rows one by one.
 pub(crate) fn read_rows(
+    rt: &impl System,
     reading: Reading,
-    fd: i32,
+    input: &mut impl Read,
     bytes: &mut [u8; 2097152],
     store: &mut [u8; 262140],
     head: Head,
@@ -105,8 +108,8 @@ pub(crate) fn read_rows(
         let Outcome::Whole(v) = outcome else {
             return found;
         };
-        found = read_row(reading, fd, bytes, store, long, k, v, found);
-        say::progress(shown, k, count);
+        found = read_row(reading, input, bytes, store, long, k, v, found);
+        say::progress(rt, shown, k, count);
         k += 1;
     }
     found

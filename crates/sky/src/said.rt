@@ -34,91 +34,91 @@ fn shift_of(bits: u32) -> usize
 }
 
 // The number m times 2^k: exactly where it fits 64 bits.
-fn say_large(m: usize, k: usize)
+fn say_large(rt: &impl Print, m: usize, k: usize)
     requires { (m < 16777216) × (k ≤ 105) }
 {
     if k <= 40 {
-        say::number(m << k);
+        say::number(rt, m << k);
         return;
     }
     let lead = leading(m, 2, k);
-    lit::say_lead(lead.digits, lead.more, 0);
+    lit::say_lead(rt, lead.digits, lead.more, 0);
 }
 
 // The number m over 2^j: exactly where it has at most 40 decimals.
-fn say_small(m: usize, j: usize)
+fn say_small(rt: &impl Print, m: usize, j: usize)
     requires { (m < 16777216) × (j ≤ 149) }
 {
     let ratio = decimal::reduced(m, j);
     if ratio.j <= 40 {
-        lit::say_ratio(ratio.m, ratio.j);
+        lit::say_ratio(rt, ratio.m, ratio.j);
         return;
     }
     let lead = leading(m, 5, j);
-    lit::say_lead(lead.digits, lead.more, j);
+    lit::say_lead(rt, lead.digits, lead.more, j);
 }
 
 // A number above 0 in decimal: exactly, or where that takes more digits than are read, its first nine and a power of ten.
-fn say_number(x: f32) {
+fn say_number(rt: &impl Print, x: f32) {
     let bits = bits_of(x);
     let m = units_of(bits);
     let s = shift_of(bits);
     if s < 149 {
-        say_small(m, 149 - s);
+        say_small(rt, m, 149 - s);
         return;
     }
-    say_large(m, s - 149);
+    say_large(rt, m, s - 149);
 }
 
 // The end of a line that says nothing of what is asked; lines of that name are not read with --crate.
-fn say_unstated(reading: Reading, lines: &[u8]) {
-    say::text(b"not stated");
+fn say_unstated(rt: &impl Print, reading: Reading, lines: &[u8]) {
+    say::text(rt, b"not stated");
     match reading {
         Reading::Document => {}
         Reading::Crate => {
-            say::text(b": ");
-            say::text(lines);
-            say::text(b" lines are passed over with --crate");
+            say::text(rt, b": ");
+            say::text(rt, lines);
+            say::text(rt, b" lines are passed over with --crate");
         }
     }
 }
 
 // The kind of colour, in a line.
-fn say_colour(reading: Reading, colour: Colour) {
-    say::text(b"  colour           ");
+fn say_colour(rt: &impl Print, reading: Reading, colour: Colour) {
+    say::text(rt, b"  colour           ");
     match colour {
-        Colour::Rgbe => say::text(b"rgbe"),
-        Colour::Xyze => say::text(b"xyze"),
-        Colour::NotStated => say_unstated(reading, b"FORMAT"),
+        Colour::Rgbe => say::text(rt, b"rgbe"),
+        Colour::Xyze => say::text(rt, b"xyze"),
+        Colour::NotStated => say_unstated(rt, reading, b"FORMAT"),
     }
-    say::text(b"\n");
+    say::text(rt, b"\n");
 }
 
 // The exposure, in a line.
-fn say_exposure(reading: Reading, exposure: Exposure) {
-    say::text(b"  exposure         ");
+fn say_exposure(rt: &impl Print, reading: Reading, exposure: Exposure) {
+    say::text(rt, b"  exposure         ");
     match exposure {
-        Exposure::Stated(x) => say_number(x),
-        Exposure::NotStated => say_unstated(reading, b"EXPOSURE"),
+        Exposure::Stated(x) => say_number(rt, x),
+        Exposure::NotStated => say_unstated(rt, reading, b"EXPOSURE"),
     }
-    say::text(b"\n");
+    say::text(rt, b"\n");
 }
 
 // What is stated, in two lines.
-pub(crate) fn say_lines(reading: Reading, colour: Colour, exposure: Exposure) {
-    say_colour(reading, colour);
-    say_exposure(reading, exposure);
+pub(crate) fn say_lines(rt: &impl Print, reading: Reading, colour: Colour, exposure: Exposure) {
+    say_colour(rt, reading, colour);
+    say_exposure(rt, reading, exposure);
 }
 
 // What is stated, in two fields of a table; a dash where it is not.
-pub(crate) fn say_fields(colour: Colour, exposure: Exposure) {
+pub(crate) fn say_fields(rt: &impl Print, colour: Colour, exposure: Exposure) {
     match colour {
-        Colour::Rgbe => say::text(b"\trgbe\t"),
-        Colour::Xyze => say::text(b"\txyze\t"),
-        Colour::NotStated => say::text(b"\t-\t"),
+        Colour::Rgbe => say::text(rt, b"\trgbe\t"),
+        Colour::Xyze => say::text(rt, b"\txyze\t"),
+        Colour::NotStated => say::text(rt, b"\t-\t"),
     }
     match exposure {
-        Exposure::Stated(x) => say_number(x),
-        Exposure::NotStated => say::text(b"-"),
+        Exposure::Stated(x) => say_number(rt, x),
+        Exposure::NotStated => say::text(rt, b"-"),
     }
 }

@@ -4,14 +4,16 @@ ghost use Rattle.sky.specs.Inner.{Held, Ended};
 
 use crate::file::{Start, Step, View};
 use crate::outcome::Outcome;
-use crate::{fault, file, name, outcome, say, stored};
+use crate::system::System;
+use crate::{fault, file, name, outcome, say, stored, system};
 use header::Head;
+use std::io::{Read, Seek};
 use steps::Reading;
 
 // Reads the row k and counts its pixels.
 fn count_row(
     reading: Reading,
-    fd: i32,
+    input: &mut impl Read,
     bytes: &mut [u8; 2097152],
     store: &mut [u8; 262140],
     counts: &mut [usize; 264],
@@ -23,7 +25,7 @@ fn count_row(
     requires long_bound { long ≤ 65535 }
     ensures { Ended result }
 {
-    let step = file::next_row(reading, fd, bytes, store, long, k, view);
+    let step = file::next_row(reading, input, bytes, store, long, k, view);
     match step {
         Step::Row(next) => {
             survey::stops::row(store, long, counts);
@@ -35,8 +37,9 @@ fn count_row(
 
 // Reads the rows one by one and counts their pixels.
 fn count_rows(
+    rt: &impl System,
     reading: Reading,
-    fd: i32,
+    input: &mut impl Read,
     bytes: &mut [u8; 2097152],
     store: &mut [u8; 262140],
     counts: &mut [usize; 264],
@@ -56,8 +59,8 @@ fn count_rows(
         let Outcome::Whole(v) = outcome else {
             return outcome;
         };
-        outcome = count_row(reading, fd, bytes, store, counts, long, k, v);
-        say::progress(shown, k, count);
+        outcome = count_row(reading, input, bytes, store, counts, long, k, v);
+        say::progress(rt, shown, k, count);
         k += 1;
     }
     outcome
@@ -91,53 +94,54 @@ fn last(counts: &[usize; 264]) -> usize
 }
 
 // Spaces behind a power of so many digits.
-fn say_spaces(n: usize) {
+fn say_spaces(rt: &impl Print, n: usize) {
     if n < 10 {
-        say::text(b"   ");
+        say::text(rt, b"   ");
     } else if n < 100 {
-        say::text(b"  ");
+        say::text(rt, b"  ");
     } else {
-        say::text(b" ");
+        say::text(rt, b" ");
     }
 }
 
 // The power of two in which a stop lies; 105 to 167 are marked: there the crate reading shows what is written to within a step.
-fn say_power(k: usize)
+fn say_power(rt: &impl Print, k: usize)
     requires { k < 264 }
 {
     if k < 137 {
-        say::text(b"  2^-");
-        say::number(137 - k);
-        say_spaces(137 - k);
+        say::text(rt, b"  2^-");
+        say::number(rt, 137 - k);
+        say_spaces(rt, 137 - k);
     } else {
-        say::text(b"  2^");
-        say::number(k - 137);
-        say_spaces(k - 137);
-        say::text(b" ");
+        say::text(rt, b"  2^");
+        say::number(rt, k - 137);
+        say_spaces(rt, k - 137);
+        say::text(rt, b" ");
     }
     if 105 <= k && k <= 167 {
-        say::text(b"| ");
+        say::text(rt, b"| ");
     } else {
-        say::text(b"  ");
+        say::text(rt, b"  ");
     }
 }
 
 // A bar for n pixels, of the most that a stop has.
-fn say_bar(n: usize, most: usize) {
+fn say_bar(rt: &impl Print, n: usize, most: usize) {
     if n != 0 {
         let unit = most / 50 + 1;
         say::first(
+            rt,
             b"###################################################",
             steps::least(n / unit, 50) + 1,
         );
-        say::text(b" ");
+        say::text(rt, b" ");
     }
-    say::number(n);
-    say::text(b"\n");
+    say::number(rt, n);
+    say::text(rt, b"\n");
 }
 
 // The bars from the darkest stop that has a pixel to the brightest.
-fn say_bars(counts: &[usize; 264], end: usize)
+fn say_bars(rt: &impl Print, counts: &[usize; 264], end: usize)
     requires { end < 264 }
 {
     let longest = most(counts);
@@ -146,30 +150,31 @@ fn say_bars(counts: &[usize; 264], end: usize)
     while k <= end {
         begun = begun || counts[k] != 0;
         if begun {
-            say_power(k);
-            say_bar(counts[k], longest);
+            say_power(rt, k);
+            say_bar(rt, counts[k], longest);
         }
         k += 1;
     }
 }
 
 // The chart of what was counted.
-fn say_chart(counts: &[usize; 264], height: usize) {
+fn say_chart(rt: &impl Print, counts: &[usize; 264], height: usize) {
     let end = last(counts);
     if height == 0 {
-        say::text(b"  light            none, there is no pixel\n");
+        say::text(rt, b"  light            none, there is no pixel\n");
     } else if end == 0 {
-        say::text(b"  light            none, every pixel is black\n");
+        say::text(rt, b"  light            none, every pixel is black\n");
     } else {
-        say_bars(counts, end);
+        say_bars(rt, counts, end);
     }
-    say::field(b"  black pixels     ", counts[0]);
+    say::field(rt, b"  black pixels     ", counts[0]);
 }
 
 // Counts the pixels of a picture, shows them, and answers whether it is whole.
 fn tell_rows(
+    rt: &impl System,
     reading: Reading,
-    fd: i32,
+    input: &mut impl Read,
     name: &[u8],
     bytes: &mut [u8; 2097152],
     store: &mut [u8; 262140],
@@ -182,31 +187,44 @@ fn tell_rows(
 {
     let mut counts = [0usize; 264];
     steps::clear(store, 4 * stored::long(head));
-    say::begin(shown, name);
-    let outcome = count_rows(reading, fd, bytes, store, &mut counts, head, view, shown);
-    say::end(shown);
+    say::begin(rt, shown, name);
+    let outcome = count_rows(
+        rt,
+        reading,
+        input,
+        bytes,
+        store,
+        &mut counts,
+        head,
+        view,
+        shown,
+    );
+    say::end(rt, shown);
     if outcome::is_whole(outcome) {
-        say_chart(&counts, head.height);
+        say_chart(rt, &counts, head.height);
         return true;
     }
-    outcome::say_outcome(outcome);
+    outcome::say_outcome(rt, outcome);
     false
 }
 
 // Shows the light of an open file, and answers whether it is whole.
 fn tell_open(
+    rt: &impl System,
     reading: Reading,
-    fd: i32,
+    input: &mut (impl Read + Seek),
     name: &[u8],
     bytes: &mut [u8; 2097152],
     store: &mut [u8; 262140],
 ) -> bool {
-    let shown = file::is_large(fd);
-    let start = file::open(reading, fd, bytes);
+    let shown = file::is_large(input);
+    let start = file::open(reading, input, bytes);
     match start {
-        Start::Sizes(head, view) => tell_rows(reading, fd, name, bytes, store, head, view, shown),
+        Start::Sizes(head, view) => tell_rows(
+            rt, reading, input, name, bytes, store, head, view, shown,
+        ),
         Start::Ended(outcome) => {
-            fault::say_outcome(bytes, outcome);
+            fault::say_outcome(rt, bytes, outcome);
             false
         }
     }
@@ -214,19 +232,20 @@ fn tell_open(
 
 // Shows the light of a file, and answers whether it is whole.
 pub(crate) fn tell(
+    rt: &impl System,
     reading: Reading,
     name: &[u8],
     bytes: &mut [u8; 2097152],
     store: &mut [u8; 262140],
 ) -> bool {
-    say::name(name);
-    say::text(b"\n");
-    let fd = os::open_read(name);
-    if fd < 0 {
-        name::say_unopened(os::errno());
-        return false;
+    say::name(rt, name);
+    say::text(rt, b"\n");
+    let opened = system::open_read(rt, name);
+    match opened {
+        Ok(mut input) => tell_open(rt, reading, &mut input, name, bytes, store),
+        Err(error) => {
+            name::say_unopened(rt, error);
+            false
+        }
     }
-    let ok = tell_open(reading, fd, name, bytes, store);
-    libc::close(fd);
-    ok
 }
