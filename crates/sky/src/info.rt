@@ -99,15 +99,8 @@ fn tell_rows(
         Outcome::Whole(v) => {
             let totals = found.totals;
             let after = file::after(input, bytes, v);
-            say_found(
-                rt,
-                reading,
-                head,
-                totals,
-                found.length,
-                file::taken(v),
-                after,
-            );
+            let taken = file::taken(v);
+            say_found(rt, reading, head, totals, found.length, taken, after);
             true
         }
         _ => {
