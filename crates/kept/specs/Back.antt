@@ -80,31 +80,31 @@ NoOnes px w n = is_coded w ≡ false → (k : ℕ) → k < n → is_repeat px (4
 -- ---- The claims, over the definitions, with the header by a reading and by any rule for a row and for a pixel: the reader on the file that is written, with any bytes after it
 
 abbrev pub ComesBack : (ℕ → ℕ → ℕ → Type 0) → Reading → RowRule → SampleRule → ℕ → ℕ → List Float → Type 0
-ComesBack near reading rowRule rule w h samples =
+ComesBack near reading row_rule rule w h samples =
     (rest : List ℕ) (widest highest : ℕ) (out : List Float) (store : List ℕ) → Enough w h widest highest out store
-    → let left = read_by reading rowRule rule (file_of samples w h ++ rest) widest highest out store in
+    → let left = read_by reading row_rule rule (file_of samples w h ++ rest) widest highest out store in
     ReadBack near reading w h (length (file_of samples w h)) samples out left.0 left.1
 
 abbrev pub ComesBack4 : Reading → RowRule → SampleRule → ℕ → ℕ → List ℕ → Type 0
-ComesBack4 reading rowRule rule w h px =
+ComesBack4 reading row_rule rule w h px =
     (rest : List ℕ) (widest highest : ℕ) (out : List Float) (store : List ℕ) → Enough w h widest highest out store
-    → let left = read_by reading rowRule rule (frame_of px w h ++ rest) widest highest out store in
+    → let left = read_by reading row_rule rule (frame_of px w h ++ rest) widest highest out store in
     ReadBack4 reading rule w h (length (frame_of px w h)) px out left.0 left.1
 
 -- ---- The claims, over the calls: a call of the writer was done and left n bytes in its output, and a reader by the rules is called on them, with any bytes after
 
 abbrev pub CallsComeBack : (ℕ → ℕ → ℕ → Type 0) → Reading → RowRule → SampleRule → ℕ → ℕ → List Float → Type 0
-CallsComeBack near reading rowRule rule w h samples =
+CallsComeBack near reading row_rule rule w h samples =
     (lent left : List ℕ) (n : ℕ) → WritePromise w h samples lent (Done n) left
     → (rest : List ℕ) (widest highest : ℕ) (out out' : List Float) (store store' : List ℕ) (answer : ReadAnswer) → Enough w h widest highest out store
-    → ReadPromiseBy reading rowRule rule (take n left ++ rest) widest highest out store answer out' store'
+    → ReadPromiseBy reading row_rule rule (take n left ++ rest) widest highest out store answer out' store'
     → ReadBack near reading w h n samples out (paper_of answer) out'
 
 abbrev pub CallsComeBack4 : Reading → RowRule → SampleRule → ℕ → ℕ → List ℕ → Type 0
-CallsComeBack4 reading rowRule rule w h px =
+CallsComeBack4 reading row_rule rule w h px =
     (lent left : List ℕ) (n : ℕ) → Write4Promise w h px lent (Done n) left
     → (rest : List ℕ) (widest highest : ℕ) (out out' : List Float) (store store' : List ℕ) (answer : ReadAnswer) → Enough w h widest highest out store
-    → ReadPromiseBy reading rowRule rule (take n left ++ rest) widest highest out store answer out' store'
+    → ReadPromiseBy reading row_rule rule (take n left ++ rest) widest highest out store answer out' store'
     → ReadBack4 reading rule w h n px out (paper_of answer) out'
 
 -- ---- A frame in range is written: into every output that is long enough

@@ -25,15 +25,15 @@ onward (Fault number) at = at
 
 -- the place in the input and the row store before row k, where the rows start at a place and with a store
 unfoldable pub before : RowRule → List ℕ → ℕ → ℕ → List ℕ → ℕ → ℕ × List ℕ
-before rowRule bytes long at store zero = (at, store)
-before rowRule bytes long at store (suc k) =
-    let x = before rowRule bytes long at store k in
-    let read = rowRule bytes x.0 x.1 long in
+before row_rule bytes long at store zero = (at, store)
+before row_rule bytes long at store (suc k) =
+    let x = before row_rule bytes long at store k in
+    let read = row_rule bytes x.0 x.1 long in
     (onward read.0 x.0, read.1)
 
 -- what the rule says of row k
 abbrev pub row_at : RowRule → List ℕ → ℕ → ℕ → List ℕ → ℕ → Taken × List ℕ
-row_at rowRule bytes long at store k = let x = before rowRule bytes long at store k in rowRule bytes x.0 x.1 long
+row_at row_rule bytes long at store k = let x = before row_rule bytes long at store k in row_rule bytes x.0 x.1 long
 
 -- ---- The output
 
@@ -45,17 +45,17 @@ pub record Stand (rule : SampleRule) (stored : Stored) (after : ℕ → List ℕ
   pub size : length out ≡ length lent
 
 -- no row before row n is at fault, and these rows stand in the output
-pub record RowsRead (rowRule : RowRule) (rule : SampleRule) (bytes : List ℕ) (stored : Stored) (at : ℕ) (store : List ℕ) (n : ℕ) (lent out : List Float) : Type 0 where
-  pub read : (k : ℕ) → k < n → (row_at rowRule bytes stored.long at store k).0 ≡ Done (before rowRule bytes stored.long at store (k + 1)).0
-  pub stand : Stand rule stored (λ k. (row_at rowRule bytes stored.long at store k).1) n lent out
+pub record RowsRead (row_rule : RowRule) (rule : SampleRule) (bytes : List ℕ) (stored : Stored) (at : ℕ) (store : List ℕ) (n : ℕ) (lent out : List Float) : Type 0 where
+  pub read : (k : ℕ) → k < n → (row_at row_rule bytes stored.long at store k).0 ≡ Done (before row_rule bytes stored.long at store (k + 1)).0
+  pub stand : Stand rule stored (λ k. (row_at row_rule bytes stored.long at store k).1) n lent out
 
 -- After the rows. Done: all of them stand, the place is the one after the last, and so is the row store.
 -- Refused in row k: rows 0 to k-1 stand; row k is at fault by that number, and the row store is as it left it.
 abbrev pub RowsLeft : RowRule → SampleRule → List ℕ → Stored → ℕ → List Float → List ℕ → Answer ℕ → List Float → List ℕ → Type 0
-RowsLeft rowRule rule bytes stored at lent store (done next) out' store' =
-    RowsRead rowRule rule bytes stored at store stored.count lent out' × ((next, store') ≡ before rowRule bytes stored.long at store stored.count)
-RowsLeft rowRule rule bytes stored at lent store (refused number k) out' store' =
-    (k < stored.count) × RowsRead rowRule rule bytes stored at store k lent out' × ((Fault number, store') ≡ row_at rowRule bytes stored.long at store k)
+RowsLeft row_rule rule bytes stored at lent store (done next) out' store' =
+    RowsRead row_rule rule bytes stored at store stored.count lent out' × ((next, store') ≡ before row_rule bytes stored.long at store stored.count)
+RowsLeft row_rule rule bytes stored at lent store (refused number k) out' store' =
+    (k < stored.count) × RowsRead row_rule rule bytes stored at store k lent out' × ((Fault number, store') ≡ row_at row_rule bytes stored.long at store k)
 
 -- the row store keeps its length, and everything beyond the 4w bytes of a row
 pub record StoreLeft (long : ℕ) (lent store : List ℕ) : Type 0 where
@@ -65,8 +65,8 @@ pub record StoreLeft (long : ℕ) (lent store : List ℕ) : Type 0 where
 -- ---- The whole reader
 
 -- what the rows of a file whose header says `head` leave, of the output and the row store that are lent
-pub record FrameLeft (rowRule : RowRule) (rule : SampleRule) (bytes : List ℕ) (head : Head) (out : List Float) (store : List ℕ) (left : Left) : Type 0 where
-  pub rows : RowsLeft rowRule rule bytes (stored_of head) head.taken out (cleared (stored_of head).long store) left.0 left.1 left.2
+pub record FrameLeft (row_rule : RowRule) (rule : SampleRule) (bytes : List ℕ) (head : Head) (out : List Float) (store : List ℕ) (left : Left) : Type 0 where
+  pub rows : RowsLeft row_rule rule bytes (stored_of head) head.taken out (cleared (stored_of head).long store) left.0 left.1 left.2
   pub row_store : StoreLeft (stored_of head).long store left.2
 
 -- the header's checks and 6 to 8
@@ -74,7 +74,7 @@ abbrev pub early_checks : Reading → List ℕ → ℕ → ℕ → List Float �
 early_checks reading bytes widest highest out store = head_checks reading bytes widest highest ++ frame_checks (head_in reading bytes) out store
 
 -- "All refusals but 9 change no lent memory", and 14 and 25, which leave it as 9 does: where one of these checks fails, output and row store are as lent; where none does, they are as the rows leave them
-pub record ReadLeft (reading : Reading) (rowRule : RowRule) (rule : SampleRule) (bytes : List ℕ) (widest highest : ℕ) (out : List Float) (store : List ℕ) : Type 0 where
-  pub early : (n : ℕ) → FirstFails n (early_checks reading bytes widest highest out store) → read_by reading rowRule rule bytes widest highest out store ≡ (refuse n, out, store)
+pub record ReadLeft (reading : Reading) (row_rule : RowRule) (rule : SampleRule) (bytes : List ℕ) (widest highest : ℕ) (out : List Float) (store : List ℕ) : Type 0 where
+  pub early : (n : ℕ) → FirstFails n (early_checks reading bytes widest highest out store) → read_by reading row_rule rule bytes widest highest out store ≡ (refuse n, out, store)
   pub later : ((n : ℕ) → FirstFails n (early_checks reading bytes widest highest out store) → ⊥)
-      → (left : Left) × (read_by reading rowRule rule bytes widest highest out store ≡ framed (head_in reading bytes) left) × FrameLeft rowRule rule bytes (head_in reading bytes) out store left
+      → (left : Left) × (read_by reading row_rule rule bytes widest highest out store ≡ framed (head_in reading bytes) left) × FrameLeft row_rule rule bytes (head_in reading bytes) out store left

@@ -15,8 +15,8 @@ coded_worst w h = length (written w h) + h * (4 + 4 * (w + (w + 127) / 128))
 abbrev pub one : Float
 one = fin false 1 (pos 0)
 
-abbrev pub two_and_aHalf : Float
-two_and_aHalf = fin false 5 (negsuc 0)
+abbrev pub two_and_a_half : Float
+two_and_a_half = fin false 5 (negsuc 0)
 
 -- n pixels, x three times and y three times in turn
 unfoldable pub in_turn : Float → Float → ℕ → List Float
@@ -25,4 +25,4 @@ in_turn x y (suc n) = x ∷ x ∷ x ∷ in_turn y x n
 
 -- a frame of pixels 1,1,1 and 2.5,2.5,2.5 in turn
 abbrev pub checkered : ℕ → ℕ → List Float
-checkered w h = in_turn one two_and_aHalf (w * h)
+checkered w h = in_turn one two_and_a_half (w * h)

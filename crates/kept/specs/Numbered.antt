@@ -13,9 +13,9 @@ use Rattle.writer.specs.Write as writer
 
 -- the reader, with the header by a reading and by any rule for a row and for a pixel: 1, 15 or 16, and 2 to 8 before anything is written, and then the number of the first row at fault, 9 or 25 in the crate reading, 9 or 14 in the document reading
 unfoldable pub read_checks : Reading → RowRule → SampleRule → List ℕ → ℕ → ℕ → List Float → List ℕ → List Check
-read_checks reading rowRule rule bytes widest highest out store =
+read_checks reading row_rule rule bytes widest highest out store =
     let head = head_in reading bytes in
-    let rows = rows_of rowRule rule bytes (stored_of head) head.taken out (cleared (stored_of head).long store) in
+    let rows = rows_of row_rule rule bytes (stored_of head) head.taken out (cleared (stored_of head).long store) in
     head_checks reading bytes widest highest ++ (frame_checks head out store ++ fault_of rows.0 ∷ [])
 
 -- the length of a frame of samples: 7, 10, 11, 12

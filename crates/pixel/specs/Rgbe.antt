@@ -12,13 +12,13 @@ use Rattle.pixel.specs.Units.{of_units, mag}
 
 -- ---- RULES 4.13: a sample of mantissa m and exponent byte E is 0 where E is 0; else, with d = E - 128 and k = |d| mod 32, m·2^(k-8) where d is above 0, and m·2^(-k-8) where it is not
 
--- 2^(k-8), or 2^(-k-8), is 2^crateShift times 2^-149: 149 - 8 is 141. |d| is E - 128 if d > 0, and 128 - E otherwise.
+-- 2^(k-8), or 2^(-k-8), is 2^crate_shift times 2^-149: 149 - 8 is 141. |d| is E - 128 if d > 0, and 128 - E otherwise.
 unfoldable pub crate_shift : ℕ → ℕ
 crate_shift e = pick (ltb 128 e) (141 + (e - 128) % 32) (141 - (128 - e) % 32)
 
 -- ---- RULES 4.14: the document's value is (2m + 1)·2^(E-137), the middle of the step, and 0 where E is 0
 
--- 2^(E-137), half a step, is 2^docShift times 2^-149
+-- 2^(E-137), half a step, is 2^doc_shift times 2^-149
 abbrev pub doc_shift : ℕ → ℕ
 doc_shift e = e + 12
 

@@ -28,7 +28,7 @@ stepped rule long place out (Fault number) store = (Fault number, out, store)
 -- of a row of so many pixels with these places in the frame, the input, a place in it, the output and the row store:
 -- the next place in the input, or the number of the refusal; the output; the row store
 unfoldable pub step_of : RowRule → SampleRule → ℕ → (ℕ → ℕ) → List ℕ → ℕ → List Float → List ℕ → Taken × List Float × List ℕ
-step_of rowRule rule long place bytes at out store = let read = rowRule bytes at store long in stepped rule long place out read.0 read.1
+step_of row_rule rule long place bytes at out store = let read = row_rule bytes at store long in stepped rule long place out read.0 read.1
 
 -- ---- The rows
 
@@ -52,8 +52,8 @@ after_step row (Done at) out store = more (rows at (row + 1) store out)
 after_step row (Fault number) out store = halt (refused number row, out, store)
 
 unfoldable pub row_turn : RowRule → SampleRule → List ℕ → Stored → Rows → Turn Rows Left
-row_turn rowRule rule bytes stored x =
-    let step = step_of rowRule rule stored.long (stored.place x.row) bytes x.at x.out x.store in
+row_turn row_rule rule bytes stored x =
+    let step = step_of row_rule rule stored.long (stored.place x.row) bytes x.at x.out x.store in
     pick (ltb x.row stored.count) (after_step x.row step.0 step.1 step.2) (halt (done x.at, x.out, x.store))
 
 -- where the turns are used up, which never happens
@@ -62,7 +62,7 @@ no_rows x = (refused 9 x.row, x.out, x.store)
 
 -- the rows from a place of the input on. Each turn but the last is a row, so the turns never run out
 unfoldable pub rows_of : RowRule → SampleRule → List ℕ → Stored → ℕ → List Float → List ℕ → Left
-rows_of rowRule rule bytes stored at out store = run (row_turn rowRule rule bytes stored) no_rows (stored.count + 1) (rows at 0 store out)
+rows_of row_rule rule bytes stored at out store = run (row_turn row_rule rule bytes stored) no_rows (stored.count + 1) (rows at 0 store out)
 
 -- the rows as a check: where one is at fault it fails, by the number that the row gave
 abbrev pub fault_of : Answer ℕ → Check

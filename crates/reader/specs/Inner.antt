@@ -26,6 +26,6 @@ is_along line n = not line.back && (eqb line.stride 1 && ltb 0 n)
 
 -- the checks 6 to 8, and then the rows, of a file whose header says `head`
 unfoldable pub frame_answer : RowRule → SampleRule → List ℕ → Head → List Float → List ℕ → Answer Head × List Float × List ℕ
-frame_answer rowRule rule bytes head out store =
+frame_answer row_rule rule bytes head out store =
     checked (λ n. (refuse n, out, store)) (frame_checks head out store)
-    (framed head (rows_of rowRule rule bytes (stored_of head) head.taken out (cleared (stored_of head).long store)))
+    (framed head (rows_of row_rule rule bytes (stored_of head) head.taken out (cleared (stored_of head).long store)))

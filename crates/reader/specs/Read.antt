@@ -35,10 +35,10 @@ framed head left = (answer_of head left.0, left.1, left.2)
 
 -- the header's checks and 6 to 8 in their order, before anything is written; then the rows
 unfoldable pub read_by : Reading → RowRule → SampleRule → List ℕ → ℕ → ℕ → List Float → List ℕ → Answer Head × List Float × List ℕ
-read_by reading rowRule rule bytes widest highest out store =
+read_by reading row_rule rule bytes widest highest out store =
     let head = head_in reading bytes in
     checked (λ n. (refuse n, out, store)) (head_checks reading bytes widest highest ++ frame_checks head out store)
-    (framed head (rows_of rowRule rule bytes (stored_of head) head.taken out (cleared (stored_of head).long store)))
+    (framed head (rows_of row_rule rule bytes (stored_of head) head.taken out (cleared (stored_of head).long store)))
 
 -- the paper's answer, for each case of the call's answer
 abbrev pub paper_of : ReadAnswer → Answer Head
@@ -47,8 +47,8 @@ paper_of (read.Refused refusal) = refusal_of refusal
 
 -- a call that reads the header by this reading, and the rows by these rules: its answer, the output and the row store afterwards
 abbrev pub ReadPromiseBy : Reading → RowRule → SampleRule → List ℕ → ℕ → ℕ → List Float → List ℕ → ReadAnswer → List Float → List ℕ → Type 0
-ReadPromiseBy reading rowRule rule bytes widest highest out store answer out' store' =
-    (paper_of answer, out', store') ≡ read_by reading rowRule rule bytes widest highest out store
+ReadPromiseBy reading row_rule rule bytes widest highest out store answer out' store' =
+    (paper_of answer, out', store') ≡ read_by reading row_rule rule bytes widest highest out store
 
 -- ---- How many samples a frame has: "none" exactly where the Rust's product passes 2^64 - 1
 

@@ -55,10 +55,10 @@ module _ (rule : SampleRule) (w h : ℕ) (px : List ℕ) (lent out : List Float)
     rest = ap (drop (3 * (w * h))) front ∙ drop_at back (drop (3 * (w * h)) lent) (3 * (w * h)) (length_samples rule px 0 (w * h));
   }
 
-pub read_back4_by : (reading : Reading) (rowRule : RowRule) (rule : SampleRule) → RowsBack rowRule → (w h : ℕ) (px : List ℕ) → Sizes w h → NoOnes px w (w * h) → ComesBack4 reading rowRule rule w h px
-read_back4_by reading rowRule rule rows w h px sizes none rest widest highest out store enough =
+pub read_back4_by : (reading : Reading) (row_rule : RowRule) (rule : SampleRule) → RowsBack row_rule → (w h : ℕ) (px : List ℕ) → Sizes w h → NoOnes px w (w * h) → ComesBack4 reading row_rule rule w h px
+read_back4_by reading row_rule rule rows w h px sizes none rest widest highest out store enough =
     let room : h * (3 * w) ≤ length out = rw (mul_left_comm, mul_comm h w) enough.room in
-    let both = frame_back reading rowRule rule rows px w h rest widest highest out store sizes.some (omega arith) (omega arith) room enough.row
+    let both = frame_back reading row_rule rule rows px w h rest widest highest out store sizes.some (omega arith) (omega arith) room enough.row
     (λ flat k l. ap (is_repeat px) (zero-add (4 * k)) ∙ none flat k (rw mul_comm l)) in
     let is = both.1 ∙ ap (λ (n : ℕ). spread 1 out 0 (samples_from rule px 0 n)) (mul_comm h w) in
     record {
@@ -95,20 +95,20 @@ pub record PixelsBack (range : ℕ → Type 0) (near : ℕ → ℕ → ℕ → T
 
 -- ---- Demand 3, by any rules of which that holds
 
-module _ (reading : Reading) (rowRule : RowRule) (rule : SampleRule) (rows : RowsBack rowRule) where
+module _ (reading : Reading) (row_rule : RowRule) (rule : SampleRule) (rows : RowsBack row_rule) where
   -- the four-byte pixels of a frame come back, in range or not
-  packed_back_by : (w h : ℕ) (samples : List Float) → Sizes w h → ComesBack4 reading rowRule rule w h (packed samples 0 (w * h))
-  packed_back_by w h samples sizes = read_back4_by reading rowRule rule rows w h (packed samples 0 (w * h)) sizes (λ flat. packed_no_ones samples (w * h))
+  packed_back_by : (w h : ℕ) (samples : List Float) → Sizes w h → ComesBack4 reading row_rule rule w h (packed samples 0 (w * h))
+  packed_back_by w h samples sizes = read_back4_by reading row_rule rule rows w h (packed samples 0 (w * h)) sizes (λ flat. packed_no_ones samples (w * h))
 
   -- each pixel comes back as what its four bytes stand for, in range or not
   pub pixels_back_by : (w h : ℕ) (samples : List Float) → Sizes w h → (rest : List ℕ) (widest highest : ℕ) (out : List Float) (store : List ℕ) → Enough w h widest highest out store
-      → (k : ℕ) → k < w * h → pixel (read_by reading rowRule rule (file_of samples w h ++ rest) widest highest out store).1 k ≡ rule (bytes_of (pixel samples k))
+      → (k : ℕ) → k < w * h → pixel (read_by reading row_rule rule (file_of samples w h ++ rest) widest highest out store).1 k ≡ rule (bytes_of (pixel samples k))
   pixels_back_by w h samples sizes rest widest highest out store enough k l =
       (packed_back_by w h samples sizes rest widest highest out store enough).pixels k l
       ∙ ap rule (packed_bytes samples (w * h) k l)
 
   pub read_back_by : (range : ℕ → Type 0) (near : ℕ → ℕ → ℕ → Type 0) → PixelsBack range near rule → (w h : ℕ) (samples : List Float) → Sizes w h → AllInRange range samples (w * h)
-      → ComesBack near reading rowRule rule w h samples
+      → ComesBack near reading row_rule rule w h samples
   read_back_by range near pixels w h samples sizes all rest widest highest out store enough =
       let back = packed_back_by w h samples sizes rest widest highest out store enough in
       let is = pixels_back_by w h samples sizes rest widest highest out store enough in

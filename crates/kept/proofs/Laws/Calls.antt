@@ -45,28 +45,28 @@ sizes_passed w h got each p =
 
 -- ---- A reader on the bytes that the writer left: what holds of its definition on the file holds of the call
 
-module _ (reading : Reading) (rowRule : RowRule) (rule : SampleRule) where
+module _ (reading : Reading) (row_rule : RowRule) (rule : SampleRule) where
   module _ (file lent left : List ℕ) (n : ℕ) (wrote : Stored file lent n left) (rest : List ℕ) (widest highest : ℕ) (out out' : List Float) (store store' : List ℕ) (answer : ReadAnswer)
-      (read : ReadPromiseBy reading rowRule rule (take n left ++ rest) widest highest out store answer out' store') where
-    pub by_calls : (P : ℕ → Answer Head × List Float × List ℕ → Type 0) → P (length file) (read_by reading rowRule rule (file ++ rest) widest highest out store) → P n (paper_of answer, out', store')
+      (read : ReadPromiseBy reading row_rule rule (take n left ++ rest) widest highest out store answer out' store') where
+    pub by_calls : (P : ℕ → Answer Head × List Float × List ℕ → Type 0) → P (length file) (read_by reading row_rule rule (file ++ rest) widest highest out store) → P n (paper_of answer, out', store')
     by_calls P p =
         let bytes : take n left ≡ file = ap (take n) wrote.bytes ∙ take_at file (drop n lent) n (sym wrote.size) in
-        subst (P n) (sym (read ∙ ap (λ (l : List ℕ). read_by reading rowRule rule (l ++ rest) widest highest out store) bytes))
-        (subst (λ (m : ℕ). P m (read_by reading rowRule rule (file ++ rest) widest highest out store)) (sym wrote.size) p)
+        subst (P n) (sym (read ∙ ap (λ (l : List ℕ). read_by reading row_rule rule (l ++ rest) widest highest out store) bytes))
+        (subst (λ (m : ℕ). P m (read_by reading row_rule rule (file ++ rest) widest highest out store)) (sym wrote.size) p)
 
-  module _ (rows : RowsBack rowRule) where
+  module _ (rows : RowsBack row_rule) where
     pub calls_back_by : (range : ℕ → Type 0) (near : ℕ → ℕ → ℕ → Type 0) → PixelsBack range near rule → (w h : ℕ) (samples : List Float) → AllInRange range samples (w * h)
-        → CallsComeBack near reading rowRule rule w h samples
+        → CallsComeBack near reading row_rule rule w h samples
     calls_back_by range near pixels w h samples all lent left n wrote rest widest highest out out' store store' answer enough read =
         let told = write_told w h n samples lent left (sym wrote) in
         by_calls (file_of samples w h) lent left n told.2 rest widest highest out out' store store' answer read (λ m z. ReadBack near reading w h m samples out z.0 z.1)
-        (read_back_by reading rowRule rule rows range near pixels w h samples (sizes_passed w h (length samples) 3 told.0) all rest widest highest out store enough)
+        (read_back_by reading row_rule rule rows range near pixels w h samples (sizes_passed w h (length samples) 3 told.0) all rest widest highest out store enough)
 
-    pub calls_back4_by : (w h : ℕ) (px : List ℕ) → NoOnes px w (w * h) → CallsComeBack4 reading rowRule rule w h px
+    pub calls_back4_by : (w h : ℕ) (px : List ℕ) → NoOnes px w (w * h) → CallsComeBack4 reading row_rule rule w h px
     calls_back4_by w h px none lent left n wrote rest widest highest out out' store store' answer enough read =
         let told = write4_told w h n px lent left (sym wrote) in
         by_calls (frame_of px w h) lent left n told.2 rest widest highest out out' store store' answer read (λ m z. ReadBack4 reading rule w h m px out z.0 z.1)
-        (read_back4_by reading rowRule rule rows w h px (sizes_passed w h (length px) 4 told.0) none rest widest highest out store enough)
+        (read_back4_by reading row_rule rule rows w h px (sizes_passed w h (length px) 4 told.0) none rest widest highest out store enough)
 
 -- by either reading: `reader::read`
 pub calls_back : (reading : Reading) (w h : ℕ) (samples : List Float) → AllInRange (range_of reading) samples (w * h) → CallsComeBack (near_of reading) reading (row_of reading) (pixel_by reading) w h samples

@@ -21,10 +21,10 @@ pub refused_done : {A X : Type 0} (number place : ℕ) (a : A) (out out' : List 
     → ◌≡◌ {A = Answer A × List Float × List ℕ} (refused number place, out, store) (done a, out', store') → X
 refused_done {A} number place a out out' store store' e = absurd (differ a number place (sym (ap (λ (z : Answer A × List Float × List ℕ). z.0) e)))
 
-module _ (reading : Reading) (rowRule : RowRule) (rule : SampleRule) (bytes : List ℕ) (widest highest : ℕ) (out : List Float) (store : List ℕ) where
+module _ (reading : Reading) (row_rule : RowRule) (rule : SampleRule) (bytes : List ℕ) (widest highest : ℕ) (out : List Float) (store : List ℕ) where
   -- the rows of a file whose header says h
   abbrev pub rows_by : Head → Left
-  rows_by h = rows_of rowRule rule bytes (stored_of h) h.taken out (cleared (stored_of h).long store)
+  rows_by h = rows_of row_rule rule bytes (stored_of h) h.taken out (cleared (stored_of h).long store)
 
   pub record FileRead (head : Head) (out' : List Float) (store' : List ℕ) : Type 0 where
     -- the header, with the count of its own bytes
@@ -46,22 +46,22 @@ module _ (reading : Reading) (rowRule : RowRule) (rule : SampleRule) (bytes : Li
         head_of (refused n q) = h
     framed_done h (refused n q, o, s) e = refused_done n q head o out' s store' e
 
-    by_header : (a : Answer Head) → header_of reading bytes widest highest ≡ a → read_by reading rowRule rule bytes widest highest out store ≡ (done head, out', store') → FileRead head out' store'
+    by_header : (a : Answer Head) → header_of reading bytes widest highest ≡ a → read_by reading row_rule rule bytes widest highest out store ≡ (done head, out', store') → FileRead head out' store'
     unfolding frame_answer
     by_header (refused n p) eh e =
-        refused_done n p head out out' store store' (read_refused reading rowRule rule bytes widest highest out store (Refused (record { number = n; place = p })) (sym eh) (record { number = n; place = p }) refl ∙ e)
+        refused_done n p head out out' store store' (read_refused reading row_rule rule bytes widest highest out store (Refused (record { number = n; place = p })) (sym eh) (record { number = n; place = p }) refl ∙ e)
     by_header (done h) eh e =
         let through = passed_by (λ n. (refuse n, out, store)) (frame_checks h out store) (framed h (rows_by h)) (done head, out', store') (λ n k. refused_done n 0 head out out' store store' k)
-        (read_frame reading rowRule rule bytes widest highest out store (Read h) (sym eh) h _ refl refl ∙ e) in
+        (read_frame reading row_rule rule bytes widest highest out store (Read h) (sym eh) h _ refl refl ∙ e) in
         let left = framed_done h (rows_by h) through.1 in
         record { own = h; header = eh; checks = through.0; rows = left.0; said = left.1 }
 
-    pub file_read : read_by reading rowRule rule bytes widest highest out store ≡ (done head, out', store') → FileRead head out' store'
+    pub file_read : read_by reading row_rule rule bytes widest highest out store ≡ (done head, out', store') → FileRead head out' store'
     file_read = by_header (header_of reading bytes widest highest) refl
 
-    pub read_file : FileRead head out' store' → read_by reading rowRule rule bytes widest highest out store ≡ (done head, out', store')
+    pub read_file : FileRead head out' store' → read_by reading row_rule rule bytes widest highest out store ≡ (done head, out', store')
     unfolding frame_answer
     read_file f =
         let h = f.own in
-        sym (read_frame reading rowRule rule bytes widest highest out store (Read h) (sym f.header) h _ refl refl) ∙ pass (λ n. (refuse n, out, store)) (frame_checks h out store) (framed h (rows_by h)) f.checks
+        sym (read_frame reading row_rule rule bytes widest highest out store (Read h) (sym f.header) h _ refl refl) ∙ pass (λ n. (refuse n, out, store)) (frame_checks h out store) (framed h (rows_by h)) f.checks
         ∙ ap (framed h) f.rows ∙ ap (λ (x : Head). (done x, out', store')) f.said

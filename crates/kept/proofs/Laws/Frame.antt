@@ -72,15 +72,15 @@ module _ (rule : SampleRule) where
 abbrev said : Reading → ℕ → ℕ → Head
 said reading w h = head (written_said reading) upright w h (length (written w h))
 
-module _ (reading : Reading) (rowRule : RowRule) (rule : SampleRule) (back : RowsBack rowRule) where
+module _ (reading : Reading) (row_rule : RowRule) (rule : SampleRule) (back : RowsBack row_rule) where
   module _ (bytes px : List ℕ) (w h : ℕ) where
     -- the rows from a place and a row on give a
     abbrev Gives : ℕ → ℕ → List ℕ → List Float → reader.Left → Type 0
-    Gives at row store out a = Runs (reader.row_turn rowRule rule bytes (reader.stored_of (said reading w h))) reader.no_rows (h - row) (reader.rows at row store out) a
+    Gives at row store out a = Runs (reader.row_turn row_rule rule bytes (reader.stored_of (said reading w h))) reader.no_rows (h - row) (reader.rows at row store out) a
 
     row_read : (pre store others : List ℕ) (at : ℕ) → Ordinary px at w w → bytes ≡ pre ++ (written_row px at w ++ others)
-        → (Done (length pre + length (written_row px at w)), spread 1 store 0 (bytes_from px at (4 * w))) ≡ rowRule bytes (length pre) store w
-    row_read pre store others at none e = sym (ap (λ (l : List ℕ). rowRule l (length pre) store w) e ∙ back px pre others store at w none)
+        → (Done (length pre + length (written_row px at w)), spread 1 store 0 (bytes_from px at (4 * w))) ≡ row_rule bytes (length pre) store w
+    row_read pre store others at none e = sym (ap (λ (l : List ℕ). row_rule l (length pre) store w) e ∙ back px pre others store at w none)
 
     -- one row, whose bytes stand after `pre`
     row_there : (row at : ℕ) (pre store others : List ℕ) (out : List Float) (a : reader.Left)
@@ -88,10 +88,10 @@ module _ (reading : Reading) (rowRule : RowRule) (rule : SampleRule) (back : Row
         → Gives (length (pre ++ written_row px at w)) (row + 1) (spread 1 store 0 (bytes_from px at (4 * w))) (spread 1 out (3 * (row * w)) (samples_from rule px at w)) a
     row_there row at pre store others out a e none room more r =
         let next : ℕ = length pre + length (written_row px at w) in
-        let step = step_done rowRule rule w (λ i. row * w + i) bytes (length pre) out store (Done next) _ (row_read pre store others at none e) next _ refl
+        let step = step_done row_rule rule w (λ i. row * w + i) bytes (length pre) out store (Done next) _ (row_read pre store others at none e) next _ refl
         (ap (spread 1 out (3 * (row * w))) (sym (samples_stored rule px store at w room)) ∙ sym (placed_on rule (row * w) _ out w)) in
         rw (length-append pre (written_row px at w))
-        (rows_again rowRule rule bytes (reader.stored_of (said reading w h)) (length pre) row store out a r more (Done next) _ _ step next refl)
+        (rows_again row_rule rule bytes (reader.stored_of (said reading w h)) (length pre) row store out a r more (Done next) _ _ step next refl)
 
     -- n rows, whose bytes stand after `pre`
     rows_there : (rest : List ℕ) (n row at : ℕ) (pre store : List ℕ) (out : List Float) (a : reader.Left)
@@ -99,7 +99,7 @@ module _ (reading : Reading) (rowRule : RowRule) (rule : SampleRule) (back : Row
         → (a.0 ≡ done (length pre + length (written_rows px at w n))) × (a.1 ≡ spread 1 out (3 * (row * w)) (samples_from rule px at (n * w)))
     unfolding written_rows
     rows_there rest zero row at pre store out a e none room count r =
-        let end = rows_done rowRule rule bytes (reader.stored_of (said reading w h)) (length pre) row store out a r (omega arith) in
+        let end = rows_done row_rule rule bytes (reader.stored_of (said reading w h)) (length pre) row store out a r (omega arith) in
         let size : length pre ≡ length pre + 0 = omega arith in
         (sym (ap (λ (z : reader.Left). z.0) end) ∙ ap done size, sym (ap (λ (z : reader.Left). z.1) end) ∙ no_samples rule px at w (3 * (row * w)) out)
     rows_there rest (suc n) row at pre store out a e none room count r =
@@ -130,20 +130,20 @@ module _ (reading : Reading) (rowRule : RowRule) (rule : SampleRule) (back : Row
     frame_size = sym (length-append (written w h) (written_rows px 0 w h))
 
     module _ (some : 0 < w) (wide : w ≤ limit widest) (high : h ≤ limit highest) (room : h * (3 * w) ≤ length out) (row : 4 * w ≤ length store) where
-      by_rows : framed (said reading w h) (reader.rows_of rowRule rule bytes (reader.stored_of (said reading w h)) (length (written w h)) out (reader.cleared w store)) ≡ read_by reading rowRule rule bytes widest highest out store
+      by_rows : framed (said reading w h) (reader.rows_of row_rule rule bytes (reader.stored_of (said reading w h)) (length (written w h)) out (reader.cleared w store)) ≡ read_by reading row_rule rule bytes widest highest out store
       by_rows =
           let header : header_of reading bytes widest highest ≡ done (said reading w h) =
           ap (λ (l : List ℕ). header_of reading l widest highest) split ∙ header_back w h (written_rows px 0 w h ++ rest) reading widest highest wide high in
-          read_frame reading rowRule rule bytes widest highest out store (Read (said reading w h)) (sym header) (said reading w h) _ refl
-          (frame_rows rowRule rule bytes (said reading w h) out store room (λ e. omega arith) w refl (reader.cleared w store) _ row refl refl)
+          read_frame reading row_rule rule bytes widest highest out store (Read (said reading w h)) (sym header) (said reading w h) _ refl
+          (frame_rows row_rule rule bytes (said reading w h) out store room (λ e. omega arith) w refl (reader.cleared w store) _ row refl refl)
 
       pub frame_back : Ordinary px 0 w (h * w)
-          → ((read_by reading rowRule rule bytes widest highest out store).0 ≡ done (head (written_said reading) upright w h (length (frame_of px w h))))
-          × ((read_by reading rowRule rule bytes widest highest out store).1 ≡ spread 1 out 0 (samples_from rule px 0 (h * w)))
+          → ((read_by reading row_rule rule bytes widest highest out store).0 ≡ done (head (written_said reading) upright w h (length (frame_of px w h))))
+          × ((read_by reading row_rule rule bytes widest highest out store).1 ≡ spread 1 out 0 (samples_from rule px 0 (h * w)))
       frame_back none =
           let room' : 4 * w ≤ length (reader.cleared w store) = omega (arith, length_spread 1 store 0 (replicate (4 * w) 0)) in
           let there = rows_there bytes px w h rest h 0 0 (written w h) (reader.cleared w store) out _ split none room' (omega arith)
-          (rows_start rowRule rule bytes (reader.stored_of (said reading w h)) (length (written w h)) out (reader.cleared w store)) in
+          (rows_start row_rule rule bytes (reader.stored_of (said reading w h)) (length (written w h)) out (reader.cleared w store)) in
           let start : 3 * (0 * w) ≡ 0 = omega (arith, zero-mul w) in (
             sym (ap (λ (z : Answer Head × List Float × List ℕ). z.0) by_rows) ∙ ap (answer_of (said reading w h)) there.0 ∙ ap (λ (n : ℕ). done (head (written_said reading) upright w h n)) frame_size,
             sym (ap (λ (z : Answer Head × List Float × List ℕ). z.1) by_rows) ∙ there.1 ∙ ap (λ (p : ℕ). spread 1 out p (samples_from rule px 0 (h * w))) start,

@@ -176,16 +176,16 @@ module _ (rule : SampleRule) (stored : Stored) (after : ℕ → List ℕ) (n m :
         (λ i h. get_or-drop (3 * m) out i nan ∙ sample_as_lent (3 * m + i) (omega arith) ∙ sym (get_or-drop (3 * m) lent i nan));
   }
 
-module _ (rowRule : RowRule) (rule : SampleRule) (bytes : List ℕ) (stored : Stored) (at : ℕ) (store : List ℕ) where
+module _ (row_rule : RowRule) (rule : SampleRule) (bytes : List ℕ) (stored : Stored) (at : ℕ) (store : List ℕ) where
   -- the place and the store before row k, and what the rule says of it
   abbrev start : ℕ → ℕ × List ℕ
-  start = before rowRule bytes stored.long at store
+  start = before row_rule bytes stored.long at store
 
   abbrev row : ℕ → Taken × List ℕ
-  row = row_at rowRule bytes stored.long at store
+  row = row_at row_rule bytes stored.long at store
 
-  row_is : (k p : ℕ) (s : List ℕ) → (p, s) ≡ start k → rowRule bytes p s stored.long ≡ row k
-  row_is k p s e = ap (λ (z : ℕ × List ℕ). rowRule bytes z.0 z.1 stored.long) e
+  row_is : (k p : ℕ) (s : List ℕ) → (p, s) ≡ start k → row_rule bytes p s stored.long ≡ row k
+  row_is k p s e = ap (λ (z : ℕ × List ℕ). row_rule bytes z.0 z.1 stored.long) e
 
   start_next : (k next : ℕ) (s : List ℕ) → (Done next, s) ≡ row k → (next, s) ≡ start (k + 1)
   unfolding before
@@ -193,7 +193,7 @@ module _ (rowRule : RowRule) (rule : SampleRule) (bytes : List ℕ) (stored : St
 
   module _ (apart : Apart stored) (lent : List Float) (inside : Inside stored (length lent)) where
     abbrev Stands : ℕ → List Float → Type 0
-    Stands n out = RowsRead rowRule rule bytes stored at store n lent out
+    Stands n out = RowsRead row_rule rule bytes stored at store n lent out
 
     stood_none : Stands 0 lent
     stood_none = record { read = λ k h. absurd (omega arith); stand = stand_none rule stored apart (λ k. (row k).1) lent inside }
@@ -210,17 +210,17 @@ module _ (rowRule : RowRule) (rule : SampleRule) (bytes : List ℕ) (stored : St
         this_read = sym (ap (λ (z : Taken × List ℕ). z.0) e) ∙ ap (λ (z : ℕ × List ℕ). Done z.0) (start_next n next s e)
 
     abbrev Right : Left → Type 0
-    Right z = RowsLeft rowRule rule bytes stored at lent store z.0 z.1 z.2
+    Right z = RowsLeft row_rule rule bytes stored at lent store z.0 z.1 z.2
 
     -- from row k on, with n rows to come
     rows_from : (n k p : ℕ) (s : List ℕ) (out : List Float) (a : Left) → k + n ≡ stored.count → (p, s) ≡ start k → Stands k out
-        → Runs (row_turn rowRule rule bytes stored) no_rows (stored.count - k) (rows p k s out) a → Right a
+        → Runs (row_turn row_rule rule bytes stored) no_rows (stored.count - k) (rows p k s out) a → Right a
     rows_from zero k p s out a count is stood r =
         let all : k ≡ stored.count = omega arith in
-        subst Right (rows_done rowRule rule bytes stored p k s out a r (omega arith))
+        subst Right (rows_done row_rule rule bytes stored p k s out a r (omega arith))
         (subst (λ (m : ℕ). Stands m out) all stood, is ∙ ap start all)
     rows_from (suc n) k p s out a count is stood r =
-        let step = step_of rowRule rule stored.long (stored.place k) bytes p out s in
+        let step = step_of row_rule rule stored.long (stored.place k) bytes p out s in
         by (λ next s' o is' stood' r'. rows_from n (k + 1) next s' o a (omega arith) is' stood' r') step.0 step.1 step.2 refl
       where
         more : k < stored.count
@@ -228,26 +228,26 @@ module _ (rowRule : RowRule) (rule : SampleRule) (bytes : List ℕ) (stored : St
 
         Later : Type 0
         Later = (next : ℕ) (s' : List ℕ) (o : List Float) → (next, s') ≡ start (k + 1) → Stands (k + 1) o
-            → Runs (row_turn rowRule rule bytes stored) no_rows (stored.count - (k + 1)) (rows next (k + 1) s' o) a → Right a
+            → Runs (row_turn row_rule rule bytes stored) no_rows (stored.count - (k + 1)) (rows next (k + 1) s' o) a → Right a
 
-        by : Later → (t : Taken) (o : List Float) (s' : List ℕ) → (t, o, s') ≡ step_of rowRule rule stored.long (stored.place k) bytes p out s → Right a
+        by : Later → (t : Taken) (o : List Float) (s' : List ℕ) → (t, o, s') ≡ step_of row_rule rule stored.long (stored.place k) bytes p out s → Right a
         by later (Done next) o s' e =
-            let went = went_on rowRule rule stored.long (stored.place k) bytes p out o s s' next e in
+            let went = went_on row_rule rule stored.long (stored.place k) bytes p out o s s' next e in
             let this = went.0 ∙ row_is k p s is in
             later next s' o (start_next k next s' this) (stood_more k next out o s' more stood this went.1)
-            (rows_again rowRule rule bytes stored p k s out a r more (Done next) o s' e next refl)
+            (rows_again row_rule rule bytes stored p k s out a r more (Done next) o s' e next refl)
         by later (Fault number) o s' e =
-            let fell = faulted rowRule rule stored.long (stored.place k) bytes p out o s s' number e in
-            subst Right (rows_fault rowRule rule bytes stored p k s out a r more (Fault number) o s' e number refl)
+            let fell = faulted row_rule rule stored.long (stored.place k) bytes p out o s s' number e in
+            subst Right (rows_fault row_rule rule bytes stored p k s out a r more (Fault number) o s' e number refl)
             (more, subst (Stands k) (sym fell.1) stood, fell.0 ∙ row_is k p s is)
 
-    pub rows_left : Right (rows_of rowRule rule bytes stored at lent store)
+    pub rows_left : Right (rows_of row_rule rule bytes stored at lent store)
     unfolding before
-    rows_left = rows_from stored.count 0 at store lent _ (omega arith) refl stood_none (rows_start rowRule rule bytes stored at lent store)
+    rows_left = rows_from stored.count 0 at store lent _ (omega arith) refl stood_none (rows_start row_rule rule bytes stored at lent store)
 
   -- ---- The row store
 
-  module _ (sound : SoundRow rowRule) where
+  module _ (sound : SoundRow row_rule) where
     start_kept : (k : ℕ) → Kept (4 * stored.long) store (start k).1
     unfolding before
     start_kept zero = kept_same (4 * stored.long) store
@@ -256,7 +256,7 @@ module _ (rowRule : RowRule) (rule : SampleRule) (bytes : List ℕ) (stored : St
     row_kept : (k : ℕ) → Kept (4 * stored.long) store (row k).1
     row_kept k = kept_then (start_kept k) (sound bytes (start k).0 (start k).1 stored.long).kept
 
-    pub rows_kept : (lent : List Float) (answer : Answer ℕ) (out : List Float) (s : List ℕ) → RowsLeft rowRule rule bytes stored at lent store answer out s → Kept (4 * stored.long) store s
+    pub rows_kept : (lent : List Float) (answer : Answer ℕ) (out : List Float) (s : List ℕ) → RowsLeft row_rule rule bytes stored at lent store answer out s → Kept (4 * stored.long) store s
     rows_kept lent (done next) out s left = subst (Kept (4 * stored.long) store) (sym (ap (λ (z : ℕ × List ℕ). z.1) left.1)) (start_kept stored.count)
     rows_kept lent (refused number k) out s left = subst (Kept (4 * stored.long) store) (sym (ap (λ (z : Taken × List ℕ). z.1) left.2)) (row_kept k)
 
@@ -282,29 +282,29 @@ passed_right (check number fails ∷ cs) ds p = passed_right cs ds p.1
 
 -- ---- The whole reader
 
-module _ (reading : Reading) (rowRule : RowRule) (rule : SampleRule) (bytes : List ℕ) (widest highest : ℕ) (out : List Float) (store : List ℕ) where
+module _ (reading : Reading) (row_rule : RowRule) (rule : SampleRule) (bytes : List ℕ) (widest highest : ℕ) (out : List Float) (store : List ℕ) where
   abbrev head : Head
   head = head_in reading bytes
 
   abbrev left : Left
-  left = rows_of rowRule rule bytes (stored_of head) head.taken out (cleared (stored_of head).long store)
+  left = rows_of row_rule rule bytes (stored_of head) head.taken out (cleared (stored_of head).long store)
 
-  at_once : (n : ℕ) → FirstFails n (early_checks reading bytes widest highest out store) → read_by reading rowRule rule bytes widest highest out store ≡ (refuse n, out, store)
+  at_once : (n : ℕ) → FirstFails n (early_checks reading bytes widest highest out store) → read_by reading row_rule rule bytes widest highest out store ≡ (refuse n, out, store)
   unfolding read_by
   at_once n f = fails_answers (λ m. (refuse m, out, store)) (early_checks reading bytes widest highest out store) (framed head left) n f
 
-  by_rows : Passed (early_checks reading bytes widest highest out store) → read_by reading rowRule rule bytes widest highest out store ≡ framed head left
+  by_rows : Passed (early_checks reading bytes widest highest out store) → read_by reading row_rule rule bytes widest highest out store ≡ framed head left
   unfolding read_by
   by_rows p = pass (λ m. (refuse m, out, store)) (early_checks reading bytes widest highest out store) (framed head left) p
 
-  frame_left : SoundRow rowRule → Passed (early_checks reading bytes widest highest out store) → FrameLeft rowRule rule bytes head out store left
+  frame_left : SoundRow row_rule → Passed (early_checks reading bytes widest highest out store) → FrameLeft row_rule rule bytes head out store left
   frame_left sound p =
       let room : head.height * (3 * head.width) ≤ length out = ltb-false (length out) _ (passed_right (head_checks reading bytes widest highest) (frame_checks head out store) p).0 in
-      let there = rows_left rowRule rule bytes (stored_of head) head.taken (cleared (stored_of head).long store) (stored_apart head) out (stored_inside head (length out) room) in
-      let kept = kept_then (cleared_kept (stored_of head).long store) (rows_kept rowRule rule bytes (stored_of head) head.taken (cleared (stored_of head).long store) sound out left.0 left.1 left.2 there) in
+      let there = rows_left row_rule rule bytes (stored_of head) head.taken (cleared (stored_of head).long store) (stored_apart head) out (stored_inside head (length out) room) in
+      let kept = kept_then (cleared_kept (stored_of head).long store) (rows_kept row_rule rule bytes (stored_of head) head.taken (cleared (stored_of head).long store) sound out left.0 left.1 left.2 there) in
       record { rows = there; row_store = record { size = kept.long; beyond = kept.beyond } }
 
-  pub lent_left_by : SoundRow rowRule → ReadLeft reading rowRule rule bytes widest highest out store
+  pub lent_left_by : SoundRow row_rule → ReadLeft reading row_rule rule bytes widest highest out store
   lent_left_by sound = record {
     early = at_once;
     later = λ none. ⊎_elim (λ f. absurd (none f.0 f.1)) (λ p. (left, by_rows p, frame_left sound p)) (fails_or_passed (early_checks reading bytes widest highest out store));

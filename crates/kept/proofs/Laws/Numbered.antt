@@ -33,19 +33,19 @@ header_numbered reading bytes widest highest = exactly (head_checks reading byte
 
 -- ---- The reader, by any rule for a row and for a pixel
 
-module _ (reading : Reading) (rowRule : RowRule) (rule : SampleRule) (bytes : List ℕ) (widest highest : ℕ) (out : List Float) (store : List ℕ) where
+module _ (reading : Reading) (row_rule : RowRule) (rule : SampleRule) (bytes : List ℕ) (widest highest : ℕ) (out : List Float) (store : List ℕ) where
   head : Head
   head = head_in reading bytes
 
   rows : Answer ℕ × List Float × List ℕ
-  rows = rows_of rowRule rule bytes (stored_of head) head.taken out (cleared (stored_of head).long store)
+  rows = rows_of row_rule rule bytes (stored_of head) head.taken out (cleared (stored_of head).long store)
 
   -- the number of the rows is that of their check
   same_number : (h : Head) (a : Answer ℕ) → number_of (answer_of h a) ≡ first_of (fault_of a ∷ []) 0
   same_number h (done n) = refl
   same_number h (refused n p) = refl
 
-  read_number : number_of (read_by reading rowRule rule bytes widest highest out store).0 ≡ first_of (read_checks reading rowRule rule bytes widest highest out store) 0
+  read_number : number_of (read_by reading row_rule rule bytes widest highest out store).0 ≡ first_of (read_checks reading row_rule rule bytes widest highest out store) 0
   unfolding read_by read_checks head rows
   read_number =
       let cs = head_checks reading bytes widest highest in
@@ -57,8 +57,8 @@ module _ (reading : Reading) (rowRule : RowRule) (rule : SampleRule) (bytes : Li
       ∙ ap (first_of cs) (sym (first_append ds (fault_of rows.0 ∷ []) 0))
       ∙ sym (first_append cs (ds ++ fault_of rows.0 ∷ []) 0)
 
-  pub read_numbered_by : Exactly (read_checks reading rowRule rule bytes widest highest out store) (number_of (read_by reading rowRule rule bytes widest highest out store).0)
-  read_numbered_by = exactly (read_checks reading rowRule rule bytes widest highest out store) _ read_number
+  pub read_numbered_by : Exactly (read_checks reading row_rule rule bytes widest highest out store) (number_of (read_by reading row_rule rule bytes widest highest out store).0)
+  read_numbered_by = exactly (read_checks reading row_rule rule bytes widest highest out store) _ read_number
 
 -- `reader::read`: 1, 15 or 16, 2 to 8, and the number of a row
 pub read_numbered : (reading : Reading) (bytes : List ℕ) (widest highest : ℕ) (out : List Float) (store : List ℕ)

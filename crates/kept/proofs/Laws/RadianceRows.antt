@@ -25,8 +25,8 @@ use Rattle.kept.proofs.Laws.RadianceComponent.{found_then, found_if, component_r
 -- the row from a place on is this scanline: just its bytes are taken, and its pixels are in the first 4w places of the store, the rest of
 -- which is as it was
 abbrev pub RowReads : RowRule → List ℕ → ℕ → List ℕ → ℕ → List Rgbe → List ℕ → Type 0
-RowReads rowRule src at store w qs rest =
-    (front : List ℕ) × (drop at src ≡ front ++ rest) × (length (flat_bytes qs) ≡ 4 * w) × (rowRule src at store w ≡ (Done (at + length front), spread 1 store 0 (flat_bytes qs)))
+RowReads row_rule src at store w qs rest =
+    (front : List ℕ) × (drop at src ≡ front ++ rest) × (length (flat_bytes qs) ≡ 4 * w) × (row_rule src at store w ≡ (Done (at + length front), spread 1 store 0 (flat_bytes qs)))
 
 -- ---- Pixels and their bytes
 

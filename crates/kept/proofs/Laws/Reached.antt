@@ -21,7 +21,7 @@ use Rattle.rows_written.proofs.Laws.Worst.{pixels, row_reached}
 use Rattle.frames_written.specs.Samples.{pixel_at, four, packed, first_bright}
 use Rattle.frames_written.specs.Frame.{written_rows, frame_of, worst_of, file_of}
 use Rattle.writer.specs.Write.{frame_checks, bright_checked, length_of}
-use Rattle.kept.specs.Longest.{one, two_and_aHalf, in_turn, checkered}
+use Rattle.kept.specs.Longest.{one, two_and_a_half, in_turn, checkered}
 
 -- ---- Pixels in turn
 
@@ -127,7 +127,7 @@ dim_bytes : bytes one ≡ dim
 unfolding bytes_of peak mag size
 dim_bytes = refl
 
-lit_bytes : bytes two_and_aHalf ≡ lit
+lit_bytes : bytes two_and_a_half ≡ lit
 unfolding bytes_of peak mag size
 lit_bytes = refl
 
@@ -135,7 +135,7 @@ dim_fits : too_bright (trio one) ≡ false
 unfolding too_bright peak mag
 dim_fits = refl
 
-lit_fits : too_bright (trio two_and_aHalf) ≡ false
+lit_fits : too_bright (trio two_and_a_half) ≡ false
 unfolding too_bright peak mag
 lit_fits = refl
 
@@ -154,7 +154,7 @@ module _ (w h : ℕ) (some : 0 < w) (wide : w ≤ 65535) (high : h ≤ 65535) wh
   unfolding frame_of worst_of
   file_reached =
       let bytes-are : packed (checkered w h) 0 (w * h) ≡ pixels dim lit (h * w) =
-      packed_turn (w * h) one two_and_aHalf [] ∙ rw (dim_bytes, lit_bytes) (ap (pixels dim lit) (mul_comm w h)) in
+      packed_turn (w * h) one two_and_a_half [] ∙ rw (dim_bytes, lit_bytes) (ap (pixels dim lit) (mul_comm w h)) in
       length-append (written w h) (written_rows (packed (checkered w h) 0 (w * h)) 0 w h)
       ∙ ap (λ (n : ℕ). length (written w h) + n) (rw bytes-are (rows_reached h w dim lit [] unlike))
 
@@ -162,12 +162,12 @@ module _ (w h : ℕ) (some : 0 < w) (wide : w ≤ 65535) (high : h ≤ 65535) wh
   checks_pass =
       let no : w ≡ 0 → ⊥ = λ e. omega arith in
       let over : (ltb 65535 w || ltb 65535 h) ≡ false = simp (le-ltb 65535 w wide, le-ltb 65535 h high) in
-      (ne_eqb w 0 no, (over, (simp (eq-eqb (length (checkered w h)) (3 * (w * h)) (length_turn (w * h) one two_and_aHalf)), tt)))
+      (ne_eqb w 0 no, (over, (simp (eq-eqb (length (checkered w h)) (3 * (w * h)) (length_turn (w * h) one two_and_a_half)), tt)))
 
   -- at every width from 1 and every height some frame reaches the worst length
   pub reached : length_of w h (checkered w h) ≡ done (worst_of w h)
   unfolding length_of bright_checked
   reached =
-      let none : first_bright (checkered w h) 0 (w * h) ≡ w * h = none_bright (w * h) one two_and_aHalf [] dim_fits lit_fits in
+      let none : first_bright (checkered w h) 0 (w * h) ≡ w * h = none_bright (w * h) one two_and_a_half [] dim_fits lit_fits in
       pass refuse (frame_checks w h (length (checkered w h)) 3) _ checks_pass
       ∙ simp (none, le-ltb (w * h) (w * h) (omega arith)) (ap done file_reached)

@@ -52,16 +52,16 @@ area_fits width height h k = mul-le-mul k (mul-le-mul_left 3 h)
 
 -- ---- One step
 
-module _ (rowRule : RowRule) (rule : SampleRule) (long : ℕ) (place : ℕ → ℕ) (bytes : List ℕ) (at : ℕ) (out : List Float) (store : List ℕ)
-    (t : Taken) (store' : List ℕ) (e : (t, store') ≡ rowRule bytes at store long) where
-  stepped_by : stepped rule long place out t store' ≡ step_of rowRule rule long place bytes at out store
+module _ (row_rule : RowRule) (rule : SampleRule) (long : ℕ) (place : ℕ → ℕ) (bytes : List ℕ) (at : ℕ) (out : List Float) (store : List ℕ)
+    (t : Taken) (store' : List ℕ) (e : (t, store') ≡ row_rule bytes at store long) where
+  stepped_by : stepped rule long place out t store' ≡ step_of row_rule rule long place bytes at out store
   unfolding step_of
   stepped_by = ap (λ (z : Taken × List ℕ). stepped rule long place out z.0 z.1) e
 
-  pub step_fault : (number : ℕ) → t ≡ Fault number → (Fault number, out, store') ≡ step_of rowRule rule long place bytes at out store
+  pub step_fault : (number : ℕ) → t ≡ Fault number → (Fault number, out, store') ≡ step_of row_rule rule long place bytes at out store
   step_fault number k = rw k at stepped_by
 
-  pub step_done : (next : ℕ) (out' : List Float) → t ≡ Done next → out' ≡ placed rule place store' 0 long out → (Done next, out', store') ≡ step_of rowRule rule long place bytes at out store
+  pub step_done : (next : ℕ) (out' : List Float) → t ≡ Done next → out' ≡ placed rule place store' 0 long out → (Done next, out', store') ≡ step_of row_rule rule long place bytes at out store
   step_done next out' k es = ap (λ (l : List Float). (Done next, l, store')) es ∙ (rw k at stepped_by)
 
 -- ---- What a step did, from its answer
@@ -75,14 +75,14 @@ OfRow = Taken × List ℕ
 abbrev row_of : Answered → OfRow
 row_of z = (z.0, z.2)
 
-module _ (rowRule : RowRule) (rule : SampleRule) (long : ℕ) (place : ℕ → ℕ) (bytes : List ℕ) (at : ℕ) (out o : List Float) (store s : List ℕ) where
+module _ (row_rule : RowRule) (rule : SampleRule) (long : ℕ) (place : ℕ → ℕ) (bytes : List ℕ) (at : ℕ) (out o : List Float) (store s : List ℕ) where
   by_row : (L : Answered → OfRow → Type 0) → ((t : Taken) (s' : List ℕ) → L (stepped rule long place out t s') (t, s'))
-      → L (step_of rowRule rule long place bytes at out store) (rowRule bytes at store long)
+      → L (step_of row_rule rule long place bytes at out store) (row_rule bytes at store long)
   unfolding step_of
-  by_row L all = all (rowRule bytes at store long).0 (rowRule bytes at store long).1
+  by_row L all = all (row_rule bytes at store long).0 (row_rule bytes at store long).1
 
   -- at fault: its row is, and the output is as it was
-  pub faulted : (number : ℕ) → (Fault number, o, s) ≡ step_of rowRule rule long place bytes at out store → ((Fault number, s) ≡ rowRule bytes at store long) × (o ≡ out)
+  pub faulted : (number : ℕ) → (Fault number, o, s) ≡ step_of row_rule rule long place bytes at out store → ((Fault number, s) ≡ row_rule bytes at store long) × (o ≡ out)
   faulted number = by_row (λ x y. ◌≡◌ {A = Answered} (Fault number, o, s) x → (◌≡◌ {A = OfRow} (Fault number, s) y) × (o ≡ out)) by_taken
     where
       by_taken : (t : Taken) (s' : List ℕ) → (Fault number, o, s) ≡ stepped rule long place out t s' → (◌≡◌ {A = OfRow} (Fault number, s) (t, s')) × (o ≡ out)
@@ -90,7 +90,7 @@ module _ (rowRule : RowRule) (rule : SampleRule) (long : ℕ) (place : ℕ → �
       by_taken (Fault m) s' e = (ap row_of e, ap (λ (z : Answered). z.1) e)
 
   -- done: its row is read, and its samples are put
-  pub went_on : (next : ℕ) → (Done next, o, s) ≡ step_of rowRule rule long place bytes at out store → ((Done next, s) ≡ rowRule bytes at store long) × (o ≡ placed rule place s 0 long out)
+  pub went_on : (next : ℕ) → (Done next, o, s) ≡ step_of row_rule rule long place bytes at out store → ((Done next, s) ≡ row_rule bytes at store long) × (o ≡ placed rule place s 0 long out)
   went_on next = by_row (λ x y. ◌≡◌ {A = Answered} (Done next, o, s) x → (◌≡◌ {A = OfRow} (Done next, s) y) × (o ≡ placed rule place s 0 long out)) by_taken
     where
       by_taken : (t : Taken) (s' : List ℕ) → (Done next, o, s) ≡ stepped rule long place out t s' → (◌≡◌ {A = OfRow} (Done next, s) (t, s')) × (o ≡ placed rule place s 0 long out)
@@ -98,10 +98,10 @@ module _ (rowRule : RowRule) (rule : SampleRule) (long : ℕ) (place : ℕ → �
       by_taken (Fault m) s' e = never_both next m (ap (λ (z : Answered). z.0) e)
 
 -- places that agree on the row's pixels give the same step
-pub step_same : (rowRule : RowRule) (rule : SampleRule) (long : ℕ) (p q : ℕ → ℕ) (bytes : List ℕ) (at : ℕ) (out : List Float) (store : List ℕ) → ((i : ℕ) → i < long → p i ≡ q i)
-    → step_of rowRule rule long p bytes at out store ≡ step_of rowRule rule long q bytes at out store
+pub step_same : (row_rule : RowRule) (rule : SampleRule) (long : ℕ) (p q : ℕ → ℕ) (bytes : List ℕ) (at : ℕ) (out : List Float) (store : List ℕ) → ((i : ℕ) → i < long → p i ≡ q i)
+    → step_of row_rule rule long p bytes at out store ≡ step_of row_rule rule long q bytes at out store
 unfolding step_of
-step_same rowRule rule long p q bytes at out store h = by_taken (rowRule bytes at store long).0 (rowRule bytes at store long).1
+step_same row_rule rule long p q bytes at out store h = by_taken (row_rule bytes at store long).0 (row_rule bytes at store long).1
   where
     by_taken : (t : Taken) (s : List ℕ) → stepped rule long p out t s ≡ stepped rule long q out t s
     by_taken (Done next) s = ap (λ (l : List Float). (Done next, l, s)) (placed_same rule p q s 0 long out (λ c l m. h c (omega arith)))
@@ -118,61 +118,61 @@ By P (refused number row) = P number
 abbrev none : Rows → Left
 none x = (done x.at, x.out, x.store)
 
-module _ (rowRule : RowRule) (rule : SampleRule) (bytes : List ℕ) (stored : Stored) where
+module _ (row_rule : RowRule) (rule : SampleRule) (bytes : List ℕ) (stored : Stored) where
   pub rows_start : (at : ℕ) (out : List Float) (store : List ℕ)
-      → Runs (row_turn rowRule rule bytes stored) no_rows (stored.count - 0) (rows at 0 store out) (rows_of rowRule rule bytes stored at out store)
+      → Runs (row_turn row_rule rule bytes stored) no_rows (stored.count - 0) (rows at 0 store out) (rows_of row_rule rule bytes stored at out store)
   unfolding rows_of
   rows_start at out store = runs_start _ _ _ _ _ (omega arith)
 
   module _ (p row : ℕ) (store : List ℕ) (out : List Float) (a : Left)
-      (r : Runs (row_turn rowRule rule bytes stored) no_rows (stored.count - row) (rows p row store out) a) where
+      (r : Runs (row_turn row_rule rule bytes stored) no_rows (stored.count - row) (rows p row store out) a) where
     pub rows_done : stored.count ≤ row → (done p, out, store) ≡ a
     unfolding row_turn
     rows_done h = runs_halt r (simp (le-ltb row stored.count h))
 
     module _ (h : row < stored.count) (t : Taken) (out' : List Float) (store' : List ℕ)
-        (e : (t, out', store') ≡ step_of rowRule rule stored.long (stored.place row) bytes p out store) where
-      read_on : row_turn rowRule rule bytes stored (rows p row store out) ≡ after_step row t out' store'
+        (e : (t, out', store') ≡ step_of row_rule rule stored.long (stored.place row) bytes p out store) where
+      read_on : row_turn row_rule rule bytes stored (rows p row store out) ≡ after_step row t out' store'
       unfolding row_turn
       read_on = simp (lt-ltb row stored.count h) (ap (λ (z : Answered). after_step row z.0 z.1 z.2) (sym e))
 
       pub rows_fault : (number : ℕ) → t ≡ Fault number → (refused number row, out', store') ≡ a
       rows_fault number k = runs_halt r (read_on ∙ rw k)
 
-      pub rows_again : (at : ℕ) → t ≡ Done at → Runs (row_turn rowRule rule bytes stored) no_rows (stored.count - (row + 1)) (rows at (row + 1) store' out') a
+      pub rows_again : (at : ℕ) → t ≡ Done at → Runs (row_turn row_rule rule bytes stored) no_rows (stored.count - (row + 1)) (rows at (row + 1) store' out') a
       rows_again at k = runs_more r (read_on ∙ rw k) (omega arith)
 
   -- a turn, case by case
   pub rows_cases : (x : Rows) (L : Turn Rows Left → Type 0)
       → ((at : ℕ) (out : List Float) (store : List ℕ) → x.row < stored.count
-      → (Done at, out, store) ≡ step_of rowRule rule stored.long (stored.place x.row) bytes x.at x.out x.store → L (more (rows at (x.row + 1) store out)))
+      → (Done at, out, store) ≡ step_of row_rule rule stored.long (stored.place x.row) bytes x.at x.out x.store → L (more (rows at (x.row + 1) store out)))
       → ((number : ℕ) (out : List Float) (store : List ℕ) → x.row < stored.count
-      → (Fault number, out, store) ≡ step_of rowRule rule stored.long (stored.place x.row) bytes x.at x.out x.store → L (halt (refused number x.row, out, store)))
-      → (stored.count ≤ x.row → L (halt (done x.at, x.out, x.store))) → L (row_turn rowRule rule bytes stored x)
+      → (Fault number, out, store) ≡ step_of row_rule rule stored.long (stored.place x.row) bytes x.at x.out x.store → L (halt (refused number x.row, out, store)))
+      → (stored.count ≤ x.row → L (halt (done x.at, x.out, x.store))) → L (row_turn row_rule rule bytes stored x)
   unfolding row_turn
   rows_cases x L next faults end =
-      let step = step_of rowRule rule stored.long (stored.place x.row) bytes x.at x.out x.store in
+      let step = step_of row_rule rule stored.long (stored.place x.row) bytes x.at x.out x.store in
       by_test L (ltb x.row stored.count) (λ t. after (ltb-true x.row stored.count t) step.0 step.1 step.2 refl) (λ t. end (ltb-false x.row stored.count t))
     where
       after : x.row < stored.count → (t : Taken) (o : List Float) (s : List ℕ)
-          → (t, o, s) ≡ step_of rowRule rule stored.long (stored.place x.row) bytes x.at x.out x.store → L (after_step x.row t o s)
+          → (t, o, s) ≡ step_of row_rule rule stored.long (stored.place x.row) bytes x.at x.out x.store → L (after_step x.row t o s)
       after h (Done at) o s e = next at o s h e
       after h (Fault number) o s e = faults number o s h e
 
   -- the turns are never used up: each row takes one, and there is one for each and one for the end
   pub rows_never_out : (at : ℕ) (out : List Float) (store : List ℕ) (other : Rows → Left)
-      → rows_of rowRule rule bytes stored at out store ≡ run (row_turn rowRule rule bytes stored) other (stored.count + 1) (rows at 0 store out)
+      → rows_of row_rule rule bytes stored at out store ≡ run (row_turn row_rule rule bytes stored) other (stored.count + 1) (rows at 0 store out)
   unfolding rows_of
   rows_never_out at out store other =
       let μ : Rows → ℕ = λ x. stored.count - x.row in
-      never_out (row_turn rowRule rule bytes stored) no_rows other μ (λ x. rows_cases x (Falls μ x) (λ at o s h e. omega arith) (λ number o s h e. tt) (λ h. tt)) _ _ (omega arith)
+      never_out (row_turn row_rule rule bytes stored) no_rows other μ (λ x. rows_cases x (Falls μ x) (λ at o s h e. omega arith) (λ number o s h e. tt) (λ h. tt)) _ _ (omega arith)
 
   -- a refusal of the rows is a row's own, with the number that its rule gave
-  pub rows_faults : (P : ℕ → Type 0) → ((at : ℕ) (s : List ℕ) (number : ℕ) (s' : List ℕ) → (Fault number, s') ≡ rowRule bytes at s stored.long → P number)
-      → (at : ℕ) (out : List Float) (store : List ℕ) (number row : ℕ) → (rows_of rowRule rule bytes stored at out store).0 ≡ refused number row → P number
+  pub rows_faults : (P : ℕ → Type 0) → ((at : ℕ) (s : List ℕ) (number : ℕ) (s' : List ℕ) → (Fault number, s') ≡ row_rule bytes at s stored.long → P number)
+      → (at : ℕ) (out : List Float) (store : List ℕ) (number row : ℕ) → (rows_of row_rule rule bytes stored at out store).0 ≡ refused number row → P number
   rows_faults P given at out store number row e =
-      let kept = run_keeps (row_turn rowRule rule bytes stored) none (λ x. Unit {0}) (λ (z : Left). By P z.0)
+      let kept = run_keeps (row_turn row_rule rule bytes stored) none (λ x. Unit {0}) (λ (z : Left). By P z.0)
       (λ x u. rows_cases x (Leads (λ (y : Rows). Unit {0}) (λ (z : Left). By P z.0)) (λ q o s h f. tt)
-      (λ n o s h f. given x.at x.store n s (faulted rowRule rule stored.long (stored.place x.row) bytes x.at x.out o x.store s n f).0) (λ h. tt))
+      (λ n o s h f. given x.at x.store n s (faulted row_rule rule stored.long (stored.place x.row) bytes x.at x.out o x.store s n f).0) (λ h. tt))
       (λ x u. tt) (stored.count + 1) (rows at 0 store out) tt in
       subst (By P) (sym (ap (λ (z : Left). z.0) (rows_never_out at out store none)) ∙ e) kept

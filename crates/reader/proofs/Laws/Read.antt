@@ -41,30 +41,30 @@ use Rattle.steps.specs.declared.amount.Amount.TheVariants.{Number, None}
 -- ---- The rows of a file whose header says `head`
 
 -- one stored row more
-module _ (rowRule : RowRule) (rule : SampleRule) (bytes : List ℕ) (o : Orientation) (width height p row : ℕ) (store : List ℕ) (out : List Float) (a : Left)
-    (r : Runs (row_turn rowRule rule bytes (stored_by o width height)) no_rows (count_of o width height - row) (rows p row store out) a) (count : ℕ) (many : count ≡ count_of o width height)
+module _ (row_rule : RowRule) (rule : SampleRule) (bytes : List ℕ) (o : Orientation) (width height p row : ℕ) (store : List ℕ) (out : List Float) (a : Left)
+    (r : Runs (row_turn row_rule rule bytes (stored_by o width height)) no_rows (count_of o width height - row) (rows p row store out) a) (count : ℕ) (many : count ≡ count_of o width height)
     (line : Line) (lies : line ≡ line_of o width height row) (h : row < count) (t : Taken) (out' : List Float) (store' : List ℕ)
-    (long : ℕ) (wide : long ≡ long_of o width height) (e : (t, out', store') ≡ step_of rowRule rule long (line_at line) bytes p out store) where
-  there : (t, out', store') ≡ step_of rowRule rule (long_of o width height) (place_of o width height row) bytes p out store
+    (long : ℕ) (wide : long ≡ long_of o width height) (e : (t, out', store') ≡ step_of row_rule rule long (line_at line) bytes p out store) where
+  there : (t, out', store') ≡ step_of row_rule rule (long_of o width height) (place_of o width height row) bytes p out store
   there =
-      e ∙ ap (λ (n : ℕ). step_of rowRule rule n (line_at line) bytes p out store) wide
-      ∙ step_same rowRule rule (long_of o width height) (line_at line) (place_of o width height row) bytes p out store
+      e ∙ ap (λ (n : ℕ). step_of row_rule rule n (line_at line) bytes p out store) wide
+      ∙ step_same row_rule rule (long_of o width height) (line_at line) (place_of o width height row) bytes p out store
       (λ i l. ap (λ (x : Line). line_at x i) lies ∙ line_place o width height row i l)
 
   before_last : row < count_of o width height
   before_last = rw many at h
 
   pub frame_fault : (head : Head) (number : ℕ) → t ≡ Fault number → (refused number row, out', store') ≡ framed head a
-  frame_fault head number k = ap (framed head) (rows_fault rowRule rule bytes (stored_by o width height) p row store out a r before_last t out' store' there number k)
+  frame_fault head number k = ap (framed head) (rows_fault row_rule rule bytes (stored_by o width height) p row store out a r before_last t out' store' there number k)
 
-  pub frame_again : (at : ℕ) → t ≡ Done at → Runs (row_turn rowRule rule bytes (stored_by o width height)) no_rows (count_of o width height - (row + 1)) (rows at (row + 1) store' out') a
-  frame_again at k = rows_again rowRule rule bytes (stored_by o width height) p row store out a r before_last t out' store' there at k
+  pub frame_again : (at : ℕ) → t ≡ Done at → Runs (row_turn row_rule rule bytes (stored_by o width height)) no_rows (count_of o width height - (row + 1)) (rows at (row + 1) store' out') a
+  frame_again at k = rows_again row_rule rule bytes (stored_by o width height) p row store out a r before_last t out' store' there at k
 
 -- the last
-pub frame_done : (rowRule : RowRule) (rule : SampleRule) (bytes : List ℕ) (head : Head) (p row : ℕ) (store : List ℕ) (out : List Float) (a : Left)
-    → Runs (row_turn rowRule rule bytes (stored_of head)) no_rows ((stored_of head).count - row) (rows p row store out) a → (count : ℕ) → count ≡ (stored_of head).count
+pub frame_done : (row_rule : RowRule) (rule : SampleRule) (bytes : List ℕ) (head : Head) (p row : ℕ) (store : List ℕ) (out : List Float) (a : Left)
+    → Runs (row_turn row_rule rule bytes (stored_of head)) no_rows ((stored_of head).count - row) (rows p row store out) a → (count : ℕ) → count ≡ (stored_of head).count
     → (x : Head) → count ≤ row → x ≡ taking head p → (done x, out, store) ≡ framed head a
-frame_done rowRule rule bytes head p row store out a r count many x h e = rw e (ap (framed head) (rows_done rowRule rule bytes (stored_of head) p row store out a r (rw many at h)))
+frame_done row_rule rule bytes head p row store out a r count many x h e = rw e (ap (framed head) (rows_done row_rule rule bytes (stored_of head) p row store out a r (rw many at h)))
 
 -- the numbers by which a reading's rows are refused
 pub rows_number : (reading : Reading) (rule : SampleRule) (bytes : List ℕ) (stored : Stored) (at : ℕ) (out : List Float) (store : List ℕ) (number row : ℕ)
@@ -83,25 +83,25 @@ module _ (width height : ℕ) (area : Amount) (is : area ≡ amount_of (width * 
 
 -- ---- The checks 6 to 8
 
-module _ (rowRule : RowRule) (rule : SampleRule) (bytes : List ℕ) (head : Head) (out : List Float) (store : List ℕ) where
-  pub frame_short_out : (r : Answer Head) → length out < head.height * (3 * head.width) → r ≡ refuse 6 → (r, out, store) ≡ frame_answer rowRule rule bytes head out store
+module _ (row_rule : RowRule) (rule : SampleRule) (bytes : List ℕ) (head : Head) (out : List Float) (store : List ℕ) where
+  pub frame_short_out : (r : Answer Head) → length out < head.height * (3 * head.width) → r ≡ refuse 6 → (r, out, store) ≡ frame_answer row_rule rule bytes head out store
   unfolding frame_answer
   frame_short_out r h e = rw e (simp (lt-ltb (length out) (head.height * (3 * head.width)) h))
 
   module _ (h6 : head.height * (3 * head.width) ≤ length out) where
-    pub frame_no_width : (r : Answer Head) → head.width ≡ 0 → r ≡ refuse 7 → (r, out, store) ≡ frame_answer rowRule rule bytes head out store
+    pub frame_no_width : (r : Answer Head) → head.width ≡ 0 → r ≡ refuse 7 → (r, out, store) ≡ frame_answer row_rule rule bytes head out store
     unfolding frame_answer
     frame_no_width r h e = rw e (simp (le-ltb (length out) (head.height * (3 * head.width)) h6, eq-eqb head.width 0 h))
 
     module _ (h7 : head.width ≡ 0 → ⊥) (long : ℕ) (wide : long ≡ (stored_of head).long) where
-      pub frame_short_store : (r : Answer Head) → length store < 4 * long → r ≡ refuse 8 → (r, out, store) ≡ frame_answer rowRule rule bytes head out store
+      pub frame_short_store : (r : Answer Head) → length store < 4 * long → r ≡ refuse 8 → (r, out, store) ≡ frame_answer row_rule rule bytes head out store
       unfolding frame_answer
       frame_short_store r h e =
           let short : length store < 4 * (stored_of head).long = rw wide at h in
           rw e (simp (le-ltb (length out) (head.height * (3 * head.width)) h6, ne_eqb head.width 0 h7, lt-ltb (length store) (4 * (stored_of head).long) short))
 
       pub frame_rows : (store' : List ℕ) (a : Answer Head × List Float × List ℕ) → 4 * long ≤ length store → store' ≡ cleared long store
-          → a ≡ framed head (rows_of rowRule rule bytes (stored_of head) head.taken out store') → a ≡ frame_answer rowRule rule bytes head out store
+          → a ≡ framed head (rows_of row_rule rule bytes (stored_of head) head.taken out store') → a ≡ frame_answer row_rule rule bytes head out store
       unfolding frame_answer
       frame_rows store' a h es e =
           let room : 4 * (stored_of head).long ≤ length store = rw wide at h in
@@ -109,25 +109,25 @@ module _ (rowRule : RowRule) (rule : SampleRule) (bytes : List ℕ) (head : Head
 
 -- ---- The whole file
 
-module _ (reading : Reading) (rowRule : RowRule) (rule : SampleRule) (bytes : List ℕ) (widest highest : ℕ) (out : List Float) (store : List ℕ) (h : HeadAnswer) (is : HeaderPromise reading bytes widest highest h) where
-  split : read_by reading rowRule rule bytes widest highest out store
-      ≡ checked (λ n. (refuse n, out, store)) (head_checks reading bytes widest highest) (frame_answer rowRule rule bytes (head_in reading bytes) out store)
+module _ (reading : Reading) (row_rule : RowRule) (rule : SampleRule) (bytes : List ℕ) (widest highest : ℕ) (out : List Float) (store : List ℕ) (h : HeadAnswer) (is : HeaderPromise reading bytes widest highest h) where
+  split : read_by reading row_rule rule bytes widest highest out store
+      ≡ checked (λ n. (refuse n, out, store)) (head_checks reading bytes widest highest) (frame_answer row_rule rule bytes (head_in reading bytes) out store)
   unfolding read_by frame_answer
   split = checked_append (λ n. (refuse n, out, store)) (head_checks reading bytes widest highest) _ _
 
-  pub read_refused : (refusal : Refusal) → h ≡ Refused refusal → (refusal_of refusal, out, store) ≡ read_by reading rowRule rule bytes widest highest out store
+  pub read_refused : (refusal : Refusal) → h ≡ Refused refusal → (refusal_of refusal, out, store) ≡ read_by reading row_rule rule bytes widest highest out store
   unfolding header_of
   read_refused refusal k =
-      let both = failed (λ n. (refuse n, out, store)) (head_checks reading bytes widest highest) (head_in reading bytes) (frame_answer rowRule rule bytes (head_in reading bytes) out store)
+      let both = failed (λ n. (refuse n, out, store)) (head_checks reading bytes widest highest) (head_in reading bytes) (frame_answer row_rule rule bytes (head_in reading bytes) out store)
       refusal.number refusal.place (sym is ∙ ap header.paper_of k) in
       ap (λ (place : ℕ). (refused refusal.number place, out, store)) both.0 ∙ sym (split ∙ both.1)
 
-  pub read_frame : (head : Head) (a : Answer Head × List Float × List ℕ) → h ≡ Read head → a ≡ frame_answer rowRule rule bytes head out store
-      → a ≡ read_by reading rowRule rule bytes widest highest out store
+  pub read_frame : (head : Head) (a : Answer Head × List Float × List ℕ) → h ≡ Read head → a ≡ frame_answer row_rule rule bytes head out store
+      → a ≡ read_by reading row_rule rule bytes widest highest out store
   unfolding header_of
   read_frame head a k e =
       let both = passed (head_checks reading bytes widest highest) (head_in reading bytes) head (sym is ∙ ap header.paper_of k) in
-      e ∙ ap (λ (x : Head). frame_answer rowRule rule bytes x out store) (sym both.1) ∙ sym (split ∙ pass (λ n. (refuse n, out, store)) (head_checks reading bytes widest highest) _ both.0)
+      e ∙ ap (λ (x : Head). frame_answer row_rule rule bytes x out store) (sym both.1) ∙ sym (split ∙ pass (λ n. (refuse n, out, store)) (head_checks reading bytes widest highest) _ both.0)
 
 pub read_limits : (reading : Reading) (bytes : List ℕ) (widest highest : ℕ) (h : HeadAnswer) (head : Head) → HeaderPromise reading bytes widest highest h → h ≡ Read head
     → (head.width ≤ 65535) × (head.height ≤ 65535)
@@ -143,9 +143,9 @@ by_paper : (a b : ReadAnswer) → paper_of a ≡ paper_of b → a ≡ b
 by_paper = one_answer read.Done read.Refused paper_of call_same
 
 -- two answers that meet the promise of a reader by the same reading and rules are equal
-pub read_once_by : (reading : Reading) (rowRule : RowRule) (rule : SampleRule) (bytes : List ℕ) (widest highest : ℕ) (out : List Float) (store : List ℕ) (a b : ReadAnswer) (o o' : List Float) (s s' : List ℕ)
-    → ReadPromiseBy reading rowRule rule bytes widest highest out store a o s → ReadPromiseBy reading rowRule rule bytes widest highest out store b o' s' → (a ≡ b) × (o ≡ o') × (s ≡ s')
-read_once_by reading rowRule rule bytes widest highest out store a b o o' s s' p q =
+pub read_once_by : (reading : Reading) (row_rule : RowRule) (rule : SampleRule) (bytes : List ℕ) (widest highest : ℕ) (out : List Float) (store : List ℕ) (a b : ReadAnswer) (o o' : List Float) (s s' : List ℕ)
+    → ReadPromiseBy reading row_rule rule bytes widest highest out store a o s → ReadPromiseBy reading row_rule rule bytes widest highest out store b o' s' → (a ≡ b) × (o ≡ o') × (s ≡ s')
+read_once_by reading row_rule rule bytes widest highest out store a b o o' s s' p q =
     let e = p ∙ sym q in
     (by_paper a b (ap (λ (z : Answer Head × List Float × List ℕ). z.0) e), ap (λ (z : Answer Head × List Float × List ℕ). z.1) e, ap (λ (z : Answer Head × List Float × List ℕ). z.2) e)
 
