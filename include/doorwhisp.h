@@ -2,7 +2,7 @@
  * Doorwhisp reads and writes Radiance HDR pictures. Each call below is proved, on every input, to do what the
  * definitions in crates/doorwhisp/specs say.
  *
- * Link with crates/doorwhisp/out/libdoorwhisp.a, which `rt lib` there makes. It is for x86-64 Linux and needs
+ * Link with target/staticlib/libdoorwhisp.a, which bindings/archive makes. It is for x86-64 Linux and needs
  * nothing but `memset` of the C library: no -lm, no start-up call.
  *
  * THE ANSWER. Most calls fill a struct doorwhisp_answer that the caller lends; `answer` is the last parameter.

@@ -1,4 +1,4 @@
-//! Says where the archive is: in DOORWHISP_LIB, or where `rt lib` in crates/doorwhisp puts it.
+//! Says where the archive is: in DOORWHISP_LIB, or where `bindings/archive` puts it.
 
 use std::env;
 use std::path::PathBuf;
@@ -7,7 +7,7 @@ fn main() {
     let top = PathBuf::from(env::var("CARGO_MANIFEST_DIR").unwrap()).join("../..");
     let folder = match env::var("DOORWHISP_LIB") {
         Ok(folder) => PathBuf::from(folder),
-        Err(_) => top.join("crates/doorwhisp/out"),
+        Err(_) => top.join("target/staticlib"),
     };
     let archive = folder.join("libdoorwhisp.a");
     println!("cargo:rerun-if-env-changed=DOORWHISP_LIB");
@@ -19,7 +19,7 @@ fn main() {
     );
     assert!(
         archive.is_file(),
-        "there is no {}: run 'rt lib' in crates/doorwhisp, or name its folder in DOORWHISP_LIB",
+        "there is no {}: run bindings/archive, or name its folder in DOORWHISP_LIB",
         archive.display()
     );
     println!("cargo:rustc-link-search=native={}", folder.display());
