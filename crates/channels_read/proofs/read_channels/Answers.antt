@@ -1,6 +1,5 @@
 -- `channels_read::read_channels` meets its contract. The invariant: the definition gives from here what it gives from the start.
 use borrow.Author.Rules.{rules}
-use Prim.Native.Nat.{◌-◌}
 use Rattle.channels_read.proofs.Laws.Channels.{chans_starts, chans_done, chans_fault, chans_again}
 use Rattle.channels_read.proofs.read_channels.Goals as goal
 

@@ -1,5 +1,4 @@
 -- `channels_written::equal_fours` meets its contract. The invariant: the first n bytes are equal.
-use Prim.Native.Nat.{◌-◌}
 use native.Mathlib.Omega.{arith}
 use Rattle.channels_written.proofs.Laws.Front.{equal_first, equal_four}
 use Rattle.channels_written.proofs.equal_fours.Goals as goal

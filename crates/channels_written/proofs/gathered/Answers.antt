@@ -1,7 +1,6 @@
 -- `channels_written::gathered` meets its contract. The invariant: what is before h gathers, and h is a border of the channel.
 use mathlib.Core.Path.{refl}
 use mathlib.Core.Logic.{inl, inr}
-use Prim.Native.Nat.{◌-◌}
 use native.Mathlib.Omega.{arith}
 use Rattle.channels_written.proofs.Laws.Gather.{looks_first, looks_next, looks_end}
 use Rattle.channels_written.proofs.gathered.Goals as goal

@@ -1,5 +1,4 @@
 -- `channels_written::run_at` meets its contract. The invariant: the first n bytes are equal.
-use Prim.Native.Nat.{◌-◌}
 use native.Mathlib.Omega.{arith}
 use Rattle.channels_written.proofs.Laws.Front.{equal_next, run_other, run_stop}
 use Rattle.channels_written.proofs.run_at.Goals as goal

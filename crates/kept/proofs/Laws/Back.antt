@@ -1,5 +1,5 @@
 -- Demand 3, read back, for the whole frame, over the definitions of writer and reader, by any rule for a row and for a pixel that keeps what is asked of it.
-use Prim.Native.Nat.{ℕ, ◌+◌, ◌-◌, ◌*◌, ◌<◌, ◌≤◌, zero-le}
+use Prim.Native.Nat.{ℕ, ◌+◌, ◌*◌, ◌<◌, ◌≤◌, zero-le}
 use mathlib.Core.Bool.{Bool, true, false}
 use mathlib.Core.List.{List, ◌++◌}
 use mathlib.Core.Path.{◌≡◌, refl, sym, ap, subst, ◌∙◌}
@@ -7,7 +7,7 @@ use native.Mathlib.Nat.{mul_comm, mul_left_comm, zero-add}
 use native.Mathlib.Omega.{arith}
 use borrow.Author.Tests.{eqb-true}
 use lib.Dec.{eqb}
-use lib.Ieee.{Float, size}
+use lib.Ieee.{Float}
 use lib.ListN.{length, drop}
 use lib.Seq.{drop_at}
 use Rattle.steps.specs.Place.{spread}

@@ -1,5 +1,5 @@
 -- By the crate reading the range of demand 3 is the widest: just below it and at its upper end a frame is written that does not come back within a step. Outside the ranges of saving twice a frame is written that is not the same at the second save.
-use Prim.Native.Nat.{ℕ, ◌-◌, ◌<◌, ◌≤◌}
+use Prim.Native.Nat.{ℕ, ◌<◌, ◌≤◌}
 use mathlib.Core.List.{List, [], ◌∷◌}
 use mathlib.Core.Logic.{◌⊎◌, inl, inr, ⊎_elim}
 use mathlib.Core.Path.{◌≡◌, refl, sym, ap, subst, ◌∙◌}

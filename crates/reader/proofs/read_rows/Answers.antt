@@ -1,7 +1,6 @@
 -- `reader::read_rows` meets its contract. The invariant: running the definition from here gives what it gives from the start.
 use borrow.Author.Rules.{rules}
 use mathlib.Core.Path.{refl}
-use Prim.Native.Nat.{◌-◌}
 use native.Mathlib.Omega.{arith}
 use Rattle.places.proofs.Laws.Places.{either_small}
 use Rattle.reader.proofs.Laws.Frame.{rows_start, line_room, count_most}

@@ -1,6 +1,5 @@
 -- `stated::read_lines` meets its contract. The invariant: from here the definition says the same.
 use borrow.Author.Rules.{rules}
-use Prim.Native.Nat.{◌-◌}
 use Rattle.words.proofs.Laws.Lines.{line_less}
 use Rattle.stated.proofs.Laws.Said.{said_start, said_done, said_ends, said_fault, said_more, sound_heard}
 use Rattle.stated.proofs.read_lines.Goals as goal

@@ -1,6 +1,5 @@
 -- `steps::put_bytes` meets its contract. The invariant: storing what is left gives what is wanted. Assumes nothing.
 use borrow.Author.Rules.{rules}
-use Prim.Native.Nat.{◌-◌}
 use native.Mathlib.Omega.{arith}
 use lib.ListN.{length-set}
 use Rattle.steps.proofs.Laws.Place.{literal_again, literal_end}

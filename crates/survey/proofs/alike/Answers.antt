@@ -1,5 +1,5 @@
 -- `survey::alike` meets its contract. The invariant: those so far are the same.
-use Rattle.std.proofs.Common.{◌-◌, arith, rules}
+use Rattle.std.proofs.Common.{arith, rules}
 use Rattle.survey.proofs.Laws.Survey.{alike_one, alike_more}
 use Rattle.survey.proofs.alike.Goals as goal
 

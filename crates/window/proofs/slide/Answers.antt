@@ -1,7 +1,6 @@
 -- `window::slide` meets its contract. The invariant: so many bytes are moved, and those behind them are as they were.
 use borrow.Author.Rules.{rules}
 use mathlib.Core.Path.{refl}
-use Prim.Native.Nat.{◌-◌}
 use native.Mathlib.Omega.{arith}
 use Rattle.window.proofs.Laws.Slide.{slid_again, slid_end}
 use Rattle.window.proofs.slide.Goals as goal

@@ -11,7 +11,7 @@ use lib.Seq.{take-append-le, drop-append-le}
 use lib.Dec.{eqb, leb, ltb}
 use Rattle.steps.specs.Loop.{pick, Turn, more, halt, lead, run}
 use Rattle.steps.proofs.Laws.Turns.{by_test, Leads, Falls, run_keeps}
-use Rattle.words.specs.Lines.{line_feed, space, up_to, past, between, same, radiance_line, rgbe_line, first_line, is_first, line_turn, no_lines, lines_end}
+use Rattle.words.specs.Lines.{line_feed, space, up_to, past, between, radiance_line, rgbe_line, first_line, is_first, line_turn, no_lines, lines_end}
 use Rattle.words.specs.Fields.{fields_at}
 use Rattle.words.proofs.Laws.Lines.{up_to_some, past_from, past_within, past_moves, past_byte, past_most, same_length, lines_fall}
 

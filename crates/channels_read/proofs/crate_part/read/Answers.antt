@@ -1,6 +1,5 @@
 -- `channels_read::crate_part::read` meets its contract. The invariant: the definition gives from here what it gives from the start.
 use borrow.Author.Rules.{rules}
-use Prim.Native.Nat.{◌-◌}
 use Rattle.steps.proofs.Laws.Loop.{runs_halt}
 use Rattle.channels_read.proofs.Laws.Channel.{channel_starts, turn_done, turn_short, span_less, crate_again}
 use Rattle.channels_read.proofs.crate_part.read.Goals as goal

@@ -1,6 +1,5 @@
 -- `channels_read::document::read` meets its contract. The invariant: the definition gives from here what it gives from the start.
 use borrow.Author.Rules.{rules}
-use Prim.Native.Nat.{◌-◌}
 use Rattle.steps.proofs.Laws.Loop.{runs_halt}
 use Rattle.channels_read.proofs.Laws.Channel.{channel_starts, turn_done, turn_short, span_less, lacking_room, document_again, document_fault, document_short}
 use Rattle.channels_read.proofs.document.read.Goals as goal

@@ -1,6 +1,5 @@
 -- `flat_read::crate_part::read` meets its contract. The invariant: the definition gives from here what it gives from the start.
 use borrow.Author.Rules.{rules}
-use Prim.Native.Nat.{◌-◌}
 use Rattle.flat_read.proofs.Laws.Flat.{flat_starts, flat_done, flat_short, flat_ones, flat_again}
 use Rattle.flat_read.proofs.crate_part.read.Goals as goal
 

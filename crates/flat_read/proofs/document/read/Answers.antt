@@ -1,6 +1,5 @@
 -- `flat_read::document::read` meets its contract. The invariant: the definition gives from here what it gives from the start.
 use borrow.Author.Rules.{rules}
-use Prim.Native.Nat.{◌-◌}
 use Rattle.flat_read.proofs.Laws.Flat.{flat_starts, flat_done}
 use Rattle.flat_read.proofs.Laws.Document.{document_missing, document_fault, document_again, left_room, left_wanted, left_repeats}
 use Rattle.flat_read.proofs.document.read.Goals as goal

@@ -1,6 +1,5 @@
 -- `frames_written::samples::first_bright` meets its contract. The invariant: the pixels looked at come before the first that is too bright, and it is the first of those that are left.
 use borrow.Author.Rules.{rules}
-use Prim.Native.Nat.{◌-◌}
 use native.Mathlib.Omega.{arith}
 use Rattle.frames_written.proofs.Laws.Samples.{bright_start, bright_found, bright_again, bright_none, pixel_within, row_within, row_ends}
 use Rattle.frames_written.proofs.Laws.Near.{passed_start}

@@ -1,7 +1,6 @@
 -- `reader::samples::put_line` meets its contract. The invariant: placing what is left gives what is wanted.
 use borrow.Author.Rules.{rules}
 use mathlib.Core.Path.{refl}
-use Prim.Native.Nat.{◌-◌}
 use native.Mathlib.Omega.{arith}
 use Rattle.reader.proofs.Laws.Samples.{first_ahead, placed_start, next_ahead, line_again, line_end}
 use Rattle.reader.proofs.samples.put_line.Goals as goal

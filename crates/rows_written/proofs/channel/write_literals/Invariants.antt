@@ -1,6 +1,6 @@
 -- `rows_written::channel::write_literals` meets its contract. The invariant: what is left to store, stored, gives what was to be stored.
 use mathlib.Core.Path.{◌≡◌}
-use Prim.Native.Nat.{◌+◌, ◌-◌, ◌*◌}
+use Prim.Native.Nat.{◌+◌, ◌*◌}
 use lib.ListN.{length}
 use Rattle.steps.specs.Place.{spread}
 use Rattle.channels_written.specs.Channel.{literals, channel}

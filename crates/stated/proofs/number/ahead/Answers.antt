@@ -1,6 +1,5 @@
 -- `stated::number::ahead` meets its contract. The invariant: from here the same place is found.
 use borrow.Author.Rules.{rules}
-use Prim.Native.Nat.{◌-◌}
 use Rattle.stated.proofs.Laws.Exposure.{ahead_start, ahead_end, ahead_found, ahead_other, ahead_on}
 use Rattle.stated.proofs.number.ahead.Goals as goal
 

@@ -1,7 +1,6 @@
 -- `words::fields::trim_start` meets its contract. The invariant: all before `at` is white space.
 use borrow.Author.Rules.{rules}
 use mathlib.Core.Path.{refl}
-use Prim.Native.Nat.{◌-◌}
 use Rattle.words.proofs.Laws.Fields.{start_none, start_on, start_stop}
 use Rattle.words.proofs.fields.trim_start.Goals as goal
 

@@ -1,6 +1,5 @@
 -- `words::lines::lines_end` meets its contract. The invariant: from here the definition finds the same place.
 use borrow.Author.Rules.{rules}
-use Prim.Native.Nat.{◌-◌}
 use Rattle.words.proofs.Laws.Lines.{line_less, lines_start, lines_done, lines_blank, lines_on}
 use Rattle.words.proofs.lines.lines_end.Goals as goal
 

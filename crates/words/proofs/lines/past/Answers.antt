@@ -1,7 +1,6 @@
 -- `words::lines::past` meets its contract. The invariant: from here the same place is found.
 use borrow.Author.Rules.{rules}
 use mathlib.Core.Path.{refl}
-use Prim.Native.Nat.{◌-◌}
 use Rattle.words.proofs.Laws.Lines.{past_end, past_found, past_on}
 use Rattle.words.proofs.lines.past.Goals as goal
 

@@ -1,7 +1,6 @@
 -- `words::lines::same` meets its contract. The invariant: what is left is the same exactly if the whole is.
 use borrow.Author.Rules.{rules}
 use mathlib.Core.Path.{refl}
-use Prim.Native.Nat.{◌-◌}
 use Rattle.words.proofs.Laws.Lines.{same_length, same_end, same_on, same_not}
 use Rattle.words.proofs.lines.same.Goals as goal
 

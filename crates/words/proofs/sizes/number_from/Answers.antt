@@ -1,7 +1,6 @@
 -- `words::sizes::number_from` meets its contract. The invariant: what is left of the digits, after n, gives the same number.
 use borrow.Author.Rules.{rules}
 use mathlib.Core.Path.{refl}
-use Prim.Native.Nat.{◌-◌}
 use Rattle.words.proofs.Laws.Sizes.{number_end, number_more, number_none}
 use Rattle.words.proofs.sizes.number_from.Goals as goal
 
