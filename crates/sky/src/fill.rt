@@ -4,7 +4,15 @@ ghost use Rattle.sky.specs.Inner.{Held};
 
 use crate::file::View;
 use crate::system;
-use std::io::Read;
+use std::io::{Read, Result};
+
+// The system's number of a read that failed; 0 where it did not.
+fn error_of(got: Result<usize>) -> i32 {
+    match got {
+        Ok(_) => 0,
+        Err(error) => system::number_of(error),
+    }
+}
 
 // Reads once behind the bytes that are held.
 fn read_some(input: &mut impl Read, bytes: &mut [u8], view: View) -> View
@@ -13,21 +21,13 @@ fn read_some(input: &mut impl Read, bytes: &mut [u8], view: View) -> View
 {
     let end = view.end;
     let got = input.read(&mut bytes[end..]);
-    match got {
-        Ok(n) => View {
-            at: view.at,
-            end: end + n,
-            over: n == 0,
-            error: 0,
-            before: view.before,
-        },
-        Err(error) => View {
-            at: view.at,
-            end,
-            over: true,
-            error: system::number_of(error),
-            before: view.before,
-        },
+    let n = got.unwrap_or(0);
+    View {
+        at: view.at,
+        end: end + n,
+        over: n == 0,
+        error: error_of(got),
+        before: view.before,
     }
 }
 
