@@ -19,6 +19,7 @@ struct Span {
 }
 
 // How many bytes of the channel a count asks for.
+#[tactic(auto, using(crate::proofs::Laws::Channel::length_run, crate::proofs::Laws::Channel::length_literals))]
 fn span_length(c: usize) -> usize
     ensures { result ≡ span_length c }
 {

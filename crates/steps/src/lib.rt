@@ -37,6 +37,7 @@ pub fn least(a: usize, b: usize) -> usize
 }
 
 // Whether rows of w pixels may be coded.
+#[tactic(auto, unfolding(crate::specs::Width::is_coded))]
 pub fn is_coded(w: usize) -> bool
     ensures { result ≡ is_coded w }
 {
