@@ -6,6 +6,7 @@ pub mod Machines
 pub mod Width
 pub mod Order
 pub mod Taken
+pub mod Refusal
 pub mod Answer
 pub mod Numbered
 pub mod Amount

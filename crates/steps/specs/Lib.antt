@@ -2,6 +2,7 @@
 pub mod Loop
 pub mod Place
 pub mod Width
+pub mod Refusal
 pub mod Answer
 pub mod Numbered
 pub mod Amount

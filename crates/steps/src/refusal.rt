@@ -1,42 +1,50 @@
-// The numbers of refusals (RULES 2.2), by name.
+// Refusals: why a call refuses, and where.
+ghost use Rattle.std.specs.Prelude.{◌≡◌};
+ghost use Rattle.steps.specs.Refusal.{reason_number, at_no_place};
 
-// What a call that refuses answers: the number, and the row or pixel where the paper names one, else 0.
-#[derive(Clone, Copy)]
+// Why a call refuses: the checks of RULES 2.2, by name and number.
+#[derive(Clone, Copy, Debug, PartialEq, Eq)]
+pub enum Reason {
+    FirstLine = 1,
+    Axes = 2,
+    Size = 3,
+    TooHigh = 4,
+    TooWide = 5,
+    ShortOutput = 6,
+    NoWidth = 7,
+    ShortStore = 8,
+    BytesEnd = 9,
+    OverLimit = 10,
+    WrongLength = 11,
+    TooBright = 12,
+    NoRoom = 13,
+    BrokenRow = 14,
+    UnknownFormat = 15,
+    Exposure = 16,
+    OldRun = 25,
+}
+
+impl From<Reason> for u8 {
+    ghost from_gives = { λ reason n. n ≡ reason_number reason };
+
+    // The number.
+    fn from(reason: Reason) -> u8 {
+        reason as u8
+    }
+}
+
+// What a call that refuses answers: why, and the row or pixel where the paper names one, else 0.
+#[derive(Clone, Copy, Debug, PartialEq, Eq)]
 pub struct Refusal {
-    pub number: u8,
+    pub reason: Reason,
     pub place: usize,
 }
 
-pub const FIRST_LINE: u8 = 1;
+impl From<Reason> for Refusal {
+    ghost from_gives = { λ reason refusal. refusal ≡ at_no_place reason };
 
-pub const AXES: u8 = 2;
-
-pub const SIZE: u8 = 3;
-
-pub const TOO_HIGH: u8 = 4;
-
-pub const TOO_WIDE: u8 = 5;
-
-pub const SHORT_OUTPUT: u8 = 6;
-
-pub const NO_WIDTH: u8 = 7;
-
-pub const SHORT_STORE: u8 = 8;
-
-pub const BYTES_END: u8 = 9;
-
-pub const OVER_LIMIT: u8 = 10;
-
-pub const WRONG_LENGTH: u8 = 11;
-
-pub const TOO_BRIGHT: u8 = 12;
-
-pub const NO_ROOM: u8 = 13;
-
-pub const BROKEN_ROW: u8 = 14;
-
-pub const UNKNOWN_FORMAT: u8 = 15;
-
-pub const EXPOSURE: u8 = 16;
-
-pub const OLD_RUN: u8 = 25;
+    // A refusal that names no place.
+    fn from(reason: Reason) -> Refusal {
+        Refusal { reason, place: 0 }
+    }
+}

@@ -4,8 +4,10 @@ use mathlib.Core.Bool.{Bool, true, false}
 use mathlib.Core.List.{List, [], ◌∷◌, ◌++◌}
 use mathlib.Core.Path.{◌≡◌, refl, sym, ap, ◌∙◌}
 use native.Mathlib.Omega.{arith}
+use Rattle.std.specs.Prelude.{Result, Ok, Err}
 use Rattle.steps.specs.declared.refusal.Refusal.{Refusal}
-use Rattle.steps.specs.Answer.{Answer, done, refused, refuse, Check, check, checked}
+use Rattle.steps.specs.Answer.{Answer, done, refused, refuse, paper_of, Check, check, checked}
+use Rattle.steps.proofs.Laws.Refusal.{reason_of, reason_again}
 
 -- every check passes
 abbrev pub Passed : List Check → Type 0
@@ -49,11 +51,15 @@ checked_append refusing [] ds rest = refl
 checked_append refusing (check number true ∷ cs) ds rest = refl
 checked_append refusing (check number false ∷ cs) ds rest = checked_append refusing cs ds rest
 
--- a call's answer, from the paper's and the two cases of the call's own
-abbrev pub call_of : {A X : Type 0} → (A → X) → (Refusal → X) → Answer A → X
-call_of give refuse (done a) = give a
-call_of give refuse (refused number place) = refuse (record { number = number; place = place })
+-- a call's answer, from the paper's
+abbrev pub call_of : {A : Type 0} → Answer A → Result A Refusal
+call_of (done a) = Ok a
+call_of (refused number place) = Err (record { reason = reason_of number; place = place })
+
+call_again : {A : Type 0} (x : Result A Refusal) → call_of (paper_of x) ≡ x
+call_again (Ok a) = refl
+call_again (Err r) = rw (reason_again r.reason)
 
 -- so two answers of a call are equal where the paper's are
-pub one_answer : {A X : Type 0} (give : A → X) (refuse : Refusal → X) (paper : X → Answer A) → ((x : X) → call_of give refuse (paper x) ≡ x) → (x y : X) → paper x ≡ paper y → x ≡ y
-one_answer give refuse paper same x y e = sym (same x) ∙ ap (call_of give refuse) e ∙ same y
+pub one_answer : {A : Type 0} (x y : Result A Refusal) → paper_of x ≡ paper_of y → x ≡ y
+one_answer x y e = sym (call_again x) ∙ ap call_of e ∙ call_again y

@@ -1,11 +1,11 @@
 -- The laws that proofs use of `specs/Place.antt`. No contract cites this file. Assumes nothing.
-use Prim.Native.Nat.{ℕ, zero, suc, ◌+◌, ◌-◌, ◌*◌, ◌<◌, ◌≤◌}
+use Prim.Native.Nat.{ℕ, zero, suc, ◌+◌, ◌*◌, ◌<◌, ◌≤◌}
 use mathlib.Core.List.{List, [], ◌∷◌, ◌++◌}
 use mathlib.Core.Path.{◌≡◌, refl, sym, ap, ◌∙◌}
 use native.Mathlib.Nat.{not-suc-le-zero, add-zero}
 use native.Mathlib.Numerals.{add-one}
 use native.Mathlib.Omega.{arith}
-use lib.ListN.{length, get_or, drop, set, replicate, length-set, length-drop}
+use lib.ListN.{length, get_or, drop, set, replicate, length-set, length-drop, length-replicate}
 use lib.Seq.{get_or-drop, drop-drop, drop-append_seam, sets, sets-eq}
 use Rattle.steps.specs.Place.{bytes_from, spread}
 
@@ -30,46 +30,43 @@ spread_then s s' i j us vs e k =
     let place : j ≡ i + 1 * length us = omega arith in
     spread_append 1 s i us vs ∙ sym (rw (e, place))
 
--- one value of a run, and the rest
-pub spread_run : {A : Type 0} (d : ℕ) (s : List A) (i n : ℕ) (v : A) → 0 < n → spread d s i (replicate n v) ≡ spread d (set s i v) (i + d) (replicate (n - 1) v)
+-- one value more
+pub spread_snoc : {A : Type 0} (d : ℕ) (s : List A) (i : ℕ) (us : List A) (v : A) → set (spread d s i us) (i + d * length us) v ≡ spread d s i (us ++ v ∷ [])
 unfolding spread
-spread_run d s i zero v h = absurd (not-suc-le-zero h)
-spread_run d s i (suc n) v h =
-    let e : n ≡ suc n - 1 = omega arith in
-    ap (λ (k : ℕ). spread d (set s i v) (i + d) (replicate k v)) e
+spread_snoc d s i us v = sym (spread_append d s i us (v ∷ []))
 
--- one literal byte, and the rest
-pub spread_literal : (d : ℕ) (s : List ℕ) (i n : ℕ) (xs : List ℕ) (p : ℕ) → 0 < n
-    → spread d s i (bytes_from xs p n) ≡ spread d (set s i (get_or xs p 0)) (i + d) (bytes_from xs (p + 1) (n - 1))
+pub bytes_snoc : (xs : List ℕ) (p n : ℕ) → bytes_from xs p n ++ get_or xs (p + n) 0 ∷ [] ≡ bytes_from xs p (suc n)
+unfolding bytes_from
+bytes_snoc xs p zero = ap (λ (k : ℕ). get_or xs k 0 ∷ []) (add-zero p)
+bytes_snoc xs p (suc n) =
+    let next : p + suc n ≡ p + 1 + n = omega arith in
+    rw next (ap (λ (l : List ℕ). get_or xs p 0 ∷ l) (bytes_snoc xs (p + 1) n))
+
+pub replicate_snoc : {A : Type 0} (n : ℕ) (v : A) → replicate n v ++ v ∷ [] ≡ replicate (suc n) v
+replicate_snoc zero v = refl
+replicate_snoc {A = A} (suc n) v = ap (λ (l : List A). v ∷ l) (replicate_snoc n v)
+
+-- ---- a loop that stores from the front, in every d-th place: what is stored is the first k of what is wanted
+
+pub literal_start : (d : ℕ) (s : List ℕ) (i : ℕ) (xs : List ℕ) (p : ℕ) → s ≡ spread d s i (bytes_from xs p 0)
 unfolding spread bytes_from
-spread_literal d s i zero xs p h = absurd (not-suc-le-zero h)
-spread_literal d s i (suc n) xs p h =
-    let e : n ≡ suc n - 1 = omega arith in
-    ap (λ (k : ℕ). spread d (set s i (get_or xs p 0)) (i + d) (bytes_from xs (p + 1) k)) e
+literal_start d s i xs p = refl
 
-pub spread_none : {A : Type 0} (d : ℕ) (s : List A) (i n : ℕ) (v : A) → n ≤ 0 → spread d s i (replicate n v) ≡ s
+pub run_start : {A : Type 0} (d : ℕ) (s : List A) (i : ℕ) (v : A) → s ≡ spread d s i (replicate 0 v)
 unfolding spread
-spread_none d s i zero v h = refl
-spread_none d s i (suc n) v h = absurd (not-suc-le-zero h)
+run_start d s i v = refl
 
-pub spread_no_literal : (d : ℕ) (s : List ℕ) (i n : ℕ) (xs : List ℕ) (p : ℕ) → n ≤ 0 → spread d s i (bytes_from xs p n) ≡ s
-unfolding spread bytes_from
-spread_no_literal d s i zero xs p h = refl
-spread_no_literal d s i (suc n) xs p h = absurd (not-suc-le-zero h)
+pub literal_next : (d : ℕ) (s s' : List ℕ) (i k : ℕ) (xs : List ℕ) (p j b : ℕ) → s' ≡ spread d s i (bytes_from xs p k) → j ≡ i + d * k → b ≡ get_or xs (p + k) 0
+    → set s' j b ≡ spread d s i (bytes_from xs p (k + 1))
+literal_next d s s' i k xs p j b e ej eb =
+    let place : j ≡ i + d * length (bytes_from xs p k) = rw (length_bytes xs p k) ej in
+    rw (e, place, eb, add-one k) (spread_snoc d s i (bytes_from xs p k) (get_or xs (p + k) 0) ∙ ap (spread d s i) (bytes_snoc xs p k))
 
--- ---- a loop that stores from the front: what is wanted is what the rest gives. Stated over the values that the code has in hand
-pub literal_again : (d : ℕ) (s w : List ℕ) (i n : ℕ) (xs : List ℕ) (p b : ℕ) → spread d s i (bytes_from xs p n) ≡ w → 0 < n → b ≡ get_or xs p 0
-    → spread d (set s i b) (i + d) (bytes_from xs (p + 1) (n - 1)) ≡ w
-literal_again d s w i n xs p b e h eb = rw eb (sym (spread_literal d s i n xs p h) ∙ e)
-
-pub literal_end : (d : ℕ) (s w : List ℕ) (i n : ℕ) (xs : List ℕ) (p : ℕ) → spread d s i (bytes_from xs p n) ≡ w → n ≤ 0 → s ≡ w
-literal_end d s w i n xs p e h = sym (spread_no_literal d s i n xs p h) ∙ e
-
-pub run_again : {A : Type 0} (d : ℕ) (s w : List A) (i n : ℕ) (v : A) → spread d s i (replicate n v) ≡ w → 0 < n → spread d (set s i v) (i + d) (replicate (n - 1) v) ≡ w
-run_again d s w i n v e h = sym (spread_run d s i n v h) ∙ e
-
-pub run_end : {A : Type 0} (d : ℕ) (s w : List A) (i n : ℕ) (v : A) → spread d s i (replicate n v) ≡ w → n ≤ 0 → s ≡ w
-run_end d s w i n v e h = sym (spread_none d s i n v h) ∙ e
+pub run_next : {A : Type 0} (d : ℕ) (s s' : List A) (i k : ℕ) (v : A) (j : ℕ) → s' ≡ spread d s i (replicate k v) → j ≡ i + d * k
+    → set s' j v ≡ spread d s i (replicate (k + 1) v)
+run_next d s s' i k v j e ej =
+    let place : j ≡ i + d * length (replicate k v) = rw (length-replicate k v) ej in
+    rw (e, place, add-one k) (spread_snoc d s i (replicate k v) v ∙ ap (spread d s i) (replicate_snoc k v))
 
 -- three stores one after another
 pub put_three : {A : Type 0} (s : List A) (o : ℕ) (a b c : A) → set (set (set s o a) (o + 1) b) (o + 2) c ≡ spread 1 s o (a ∷ b ∷ c ∷ [])

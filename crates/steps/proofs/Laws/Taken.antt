@@ -3,15 +3,16 @@ use Prim.Native.Nat.{ℕ}
 use mathlib.Core.List.{List}
 use mathlib.Core.Path.{◌≡◌, sym, ap}
 use native.Mathlib.Omega.{arith}
-use Rattle.steps.specs.declared.Taken.{Taken}
-use Rattle.steps.specs.declared.Taken.TheVariants.{Done, Fault}
+use Rattle.std.specs.Prelude.{Ok, Err}
+use Rattle.steps.specs.Answer.{Taken}
+use Rattle.steps.specs.declared.refusal.Reason.{Reason}
 
-pub never_both : {X : Type 0} (next number : ℕ) → Done next ≡ Fault number → X
-never_both next number e = absurd (no e)
+pub never_both : {X : Type 0} (next : ℕ) (reason : Reason) → ◌≡◌ {A = Taken} (Ok next) (Err reason) → X
+never_both next reason e = absurd (no e)
   where
-    no : Done next ≡ Fault number → ⊥
+    no : ◌≡◌ {A = Taken} (Ok next) (Err reason) → ⊥
     no e = let z : ◌≡◌ {A = ℕ} 0 1 = cc in omega arith
 
 -- the same with the store afterwards
-pub fault_done : {X : Type 0} (number next : ℕ) (s s' : List ℕ) → ◌≡◌ {A = Taken × List ℕ} (Fault number, s) (Done next, s') → X
-fault_done number next s s' e = never_both next number (sym (ap (λ (z : Taken × List ℕ). z.0) e))
+pub fault_done : {X : Type 0} (reason : Reason) (next : ℕ) (s s' : List ℕ) → ◌≡◌ {A = Taken × List ℕ} (Err reason, s) (Ok next, s') → X
+fault_done reason next s s' e = never_both next reason (sym (ap (λ (z : Taken × List ℕ). z.0) e))
