@@ -1,13 +1,11 @@
 -- Four bytes to three samples, and three samples to four bytes, over whole numbers of 2^-149.
-use Rattle.std.specs.Prelude.{Bool, List, ℕ, ◌+◌, ◌-◌, ◌*◌, ◌/◌, ◌%◌, ◌^◌, max, ltb, leb, eqb, get_or}
+use Rattle.std.specs.Prelude.{Bool, Option, Some, None, List, ℕ, ◌+◌, ◌-◌, ◌*◌, ◌/◌, ◌%◌, ◌^◌, max, ltb, leb, eqb, get_or}
 use Rattle.std.specs.Float.Ieee.{size}
 use Rattle.steps.specs.Loop.{pick}
 use Rattle.steps.specs.declared.Reading.{Reading}
 use Rattle.steps.specs.declared.Reading.TheVariants.{Crate, Document}
 use Rattle.pixel.specs.declared.Pixel.{Pixel}
 use Rattle.pixel.specs.declared.Rgbe.{Rgbe}
-use Rattle.pixel.specs.declared.Packed.{Packed}
-use Rattle.pixel.specs.declared.Packed.TheVariants.{Bytes, TooBright}
 use Rattle.pixel.specs.Units.{of_units, mag}
 
 -- ---- RULES 4.13: a sample of mantissa m and exponent byte E is 0 where E is 0; else, with d = E - 128 and k = |d| mod 32, m·2^(k-8) where d is above 0, and m·2^(-k-8) where it is not
@@ -94,6 +92,6 @@ too_bright p = leb (2 ^ 276) (peak p)
 unfoldable pub bytes_of : Pixel → Rgbe
 bytes_of p = pick (leb (peak p) dark) black (coded (size (peak p)) p)
 
--- the bytes, or that the pixel is too bright
-unfoldable pub packed_of : Pixel → Packed
-packed_of p = pick (too_bright p) TooBright (Bytes (bytes_of p))
+-- the bytes, and none where the pixel is too bright
+unfoldable pub packed_of : Pixel → Option Rgbe
+packed_of p = pick (too_bright p) None (Some (bytes_of p))

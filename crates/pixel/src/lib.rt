@@ -25,7 +25,7 @@ ghost use Rattle.pixel.specs.declared.Rgbe.{Rgbe};
 use steps::Reading;
 
 // Three samples.
-#[derive(Clone, Copy)]
+#[derive(Clone, Copy, Debug, PartialEq)]
 pub struct Pixel {
     pub r: f32,
     pub g: f32,
@@ -33,19 +33,12 @@ pub struct Pixel {
 }
 
 // Three mantissas and the exponent byte.
-#[derive(Clone, Copy)]
+#[derive(Clone, Copy, Debug, PartialEq, Eq)]
 pub struct Rgbe {
     pub r: u8,
     pub g: u8,
     pub b: u8,
     pub e: u8,
-}
-
-// What a pixel is written as: its bytes, or that it is too bright.
-#[derive(Clone, Copy)]
-pub enum Packed {
-    Bytes(Rgbe),
-    TooBright,
 }
 
 // 2^127: a sample from here on is too bright.
@@ -251,13 +244,14 @@ pub fn pack(p: Pixel) -> Rgbe
     parts_of(word_of(p))
 }
 
-// Three samples to four bytes, or that the pixel is too bright.
-pub fn to_bytes(p: Pixel) -> Packed
+// Three samples to four bytes, and none of a pixel that is too bright.
+#[tactic(auto, unfolding(crate::specs::Rgbe::packed_of))]
+pub fn to_bytes(p: Pixel) -> Option<Rgbe>
     ensures { result ≡ packed_of p }
 {
     if is_too_bright(p) {
-        Packed::TooBright
+        None
     } else {
-        Packed::Bytes(pack(p))
+        Some(pack(p))
     }
 }
