@@ -6,41 +6,29 @@ ghost use Rattle.steps.specs.Place.{spread};
 ghost use Rattle.plain.specs.Plain.{acts, shown, plain_from};
 
 // Whether a terminal acts on a byte, which stands behind another.
+#[tactic(auto, unfolding(crate::specs::Plain::acts))]
 fn acts(before: u8, x: u8) -> bool
     ensures { result ≡ acts before x }
 {
-    if x < 32 {
-        return true;
-    }
-    if x == 127 {
-        return true;
-    }
-    if before == 194 {
-        return x < 160;
-    }
-    false
+    x < 32 || x == 127 || before == 194 && x < 160
 }
 
 // A byte as it is shown.
+#[tactic(auto, unfolding(crate::specs::Plain::shown))]
 fn shown(before: u8, x: u8) -> u8
     ensures { result ≡ shown before x }
 {
-    if acts(before, x) { 63 } else { x }
+    if acts(before, x) { b'?' } else { x }
 }
 
-// Stores the first n bytes of a name as they are shown.
-pub fn put(name: &[u8], n: usize, out: &mut [u8])
-    requires { (n ≤ length name.now) × (n ≤ length out.old) }
-    ensures { out.new ≡ spread 1 out.old 0 (plain_from name.now 0 0 n) }
+// Stores a name as it is shown.
+pub fn put(name: &[u8], out: &mut [u8])
+    requires { length name.now ≤ length out.old }
+    ensures { out.new ≡ spread 1 out.old 0 (plain_from name.now 0 0 (length name.now)) }
 {
     let mut before = 0;
-    let mut i = 0;
-    let mut left = n;
-    while 0 < left {
-        let x = name[i];
+    for (i, &x) in name.iter().enumerate() {
         out[i] = shown(before, x);
         before = x;
-        i += 1;
-        left -= 1;
     }
 }

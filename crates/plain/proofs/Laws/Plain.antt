@@ -2,53 +2,26 @@
 use Prim.Native.Nat.{ℕ, zero, suc, ◌+◌, ◌-◌, ◌<◌, ◌≤◌}
 use mathlib.Core.Bool.{Bool, true, false, ◌&&◌, ◌||◌}
 use mathlib.Core.List.{List}
-use mathlib.Core.Path.{◌≡◌, refl, sym, ◌∙◌}
+use mathlib.Core.Path.{◌≡◌, refl}
 use native.Mathlib.Nat.{not-suc-le-zero}
 use native.Mathlib.Omega.{arith}
-use borrow.Author.Tests.{ne_eqb, lt-ltb, le-ltb, ltb-false}
+use borrow.Author.Tests.{ltb-false}
 use lib.Dec.{ltb, eqb, lit≤}
 use lib.ListN.{get_or, set}
 use Rattle.steps.specs.Place.{spread}
 use Rattle.steps.proofs.Laws.Turns.{by_test}
 use Rattle.plain.specs.Plain.{acts, shown, plain_from}
 
-module _ (before x : ℕ) where
-  pub acts_low : x < 32 → true ≡ acts before x
-  unfolding acts
-  acts_low h = simp (lt-ltb x 32 h)
-
-  pub acts_delete : 32 ≤ x → x ≡ 127 → true ≡ acts before x
-  unfolding acts
-  acts_delete h e = rw e
-
-  pub acts_second : 32 ≤ x → (x ≡ 127 → ⊥) → before ≡ 194 → ltb x 160 ≡ acts before x
-  unfolding acts
-  acts_second h d e = simp (le-ltb x 32 h, ne_eqb x 127 d, e)
-
-  pub acts_not : 32 ≤ x → (x ≡ 127 → ⊥) → (before ≡ 194 → ⊥) → false ≡ acts before x
-  unfolding acts
-  acts_not h d e = simp (le-ltb x 32 h, ne_eqb x 127 d, ne_eqb before 194 e)
-
-  module _ (b : Bool) (eb : b ≡ acts before x) where
-    pub shown_mark : b ≡ true → 63 ≡ shown before x
-    unfolding shown
-    shown_mark t = simp (sym eb ∙ t)
-
-    pub shown_same : b ≡ false → x ≡ shown before x
-    unfolding shown
-    shown_same t = simp (sym eb ∙ t)
-
--- one byte more, and the rest
-pub plain_again : (name out out' w : List ℕ) (before i n x y : ℕ) → spread 1 out i (plain_from name before i n) ≡ w → 0 < n → x ≡ get_or name i 0 → y ≡ shown before x
-    → out' ≡ set out i y → spread 1 out' (i + 1) (plain_from name x (i + 1) (n - 1)) ≡ w
+-- one byte more
+pub plain_next : (name out w : List ℕ) (before i n x y : ℕ) → spread 1 out i (plain_from name before i (n - i)) ≡ w → i < n → x ≡ get_or name i 0 → y ≡ shown before x
+    → spread 1 (set out i y) (i + 1) (plain_from name x (i + 1) (n - (i + 1))) ≡ w
 unfolding spread plain_from
-plain_again name out out' w before i zero x y e h ex ey eo = absurd (not-suc-le-zero h)
-plain_again name out out' w before i (suc n) x y e h ex ey eo = let k : suc n - 1 ≡ n = omega arith in rw (eo, ey, ex, k) e
+plain_next name out w before i n x y e h ex ey = let k : n - i ≡ suc (n - (i + 1)) = omega arith in rw (ey, ex) (rw k at e)
 
-pub plain_end : (name out w : List ℕ) (before i n : ℕ) → spread 1 out i (plain_from name before i n) ≡ w → n ≤ 0 → out ≡ w
+-- all are stored
+pub plain_end : (name out w : List ℕ) (before i n : ℕ) → spread 1 out i (plain_from name before i (n - i)) ≡ w → n ≤ i → out ≡ w
 unfolding spread plain_from
-plain_end name out w before i zero e h = e
-plain_end name out w before i (suc n) e h = absurd (not-suc-le-zero h)
+plain_end name out w before i n e h = let k : n - i ≡ 0 = omega arith in rw k at e
 
 -- ---- No control character is shown
 
