@@ -1,6 +1,5 @@
 -- The laws of the definitions in `specs/`, a file for each of its files; and of bytes behind those that are taken.
 pub mod Lines
 pub mod Fields
-pub mod Axes
 pub mod Sizes
 pub mod Rest

@@ -1,8 +1,6 @@
 -- RULES 3.6: a size is one decimal digit or more, with a plus in front or without; leading zeros are allowed.
-use Rattle.std.specs.Prelude.{ℕ, ◌+◌, ◌-◌, ◌*◌, ◌^◌, Bool, true, false, ◌&&◌, List, [], ◌∷◌, eqb, leb, ltb}
+use Rattle.std.specs.Prelude.{ℕ, ◌+◌, ◌-◌, ◌*◌, ◌^◌, Bool, true, false, ◌&&◌, List, [], ◌∷◌, Option, Some, None, eqb, leb, ltb}
 use Rattle.steps.specs.Loop.{pick}
-use Rattle.words.specs.declared.sizes.Size.{Size}
-use Rattle.words.specs.declared.sizes.Size.TheVariants.{Number, NoNumber}
 
 -- a field without its leading plus, if it has one
 unfoldable pub unsigned : List ℕ → List ℕ
@@ -38,5 +36,5 @@ unfoldable pub size_of : List ℕ → ℕ
 size_of field = value_from 0 (unsigned field)
 
 -- the number that digits stand for, after those that stand for n, if it is below 2^64
-unfoldable pub number_from : ℕ → List ℕ → Size
-number_from n xs = pick (is_number n xs) (Number (value_from n xs)) NoNumber
+unfoldable pub number_from : ℕ → List ℕ → Option ℕ
+number_from n xs = pick (is_number n xs) (Some (value_from n xs)) None
