@@ -6,7 +6,7 @@ ghost use Rattle.channels_written.specs.Channel.{channel};
 ghost use Rattle.channels_written.specs.Inner.{Four, FourEqual, Equal, Skip, Gathers, Stops, Front, Parted, one_run, part_of, first_part};
 
 // How the front of a channel is written: so many literals, a short run, and a long run of so many bytes.
-#[derive(Clone, Copy)]
+#[derive(Clone, Copy, Debug, PartialEq, Eq)]
 pub struct Part {
     pub literals: usize,
     pub short: usize,
@@ -35,7 +35,7 @@ fn gathered(px: &[u8], at: usize, left: usize) -> usize
     requires { at + 4 * left < length px.now + 4 }
     ensures { Gathers (channel px.now at left) result × Stops px.now at left result }
 {
-    let stop = steps::less(left, 3);
+    let stop = left.saturating_sub(3);
     let mut h = 0;
     while h < stop {
         let d = skip(px, at + 4 * h);
@@ -52,16 +52,7 @@ fn are_all(px: &[u8], at: usize, v: u8) -> bool
     requires { at + 12 < length px.now }
     ensures { result ≡ true → Four px.now at v }
 {
-    if px[at + 12] != v {
-        return false;
-    }
-    if px[at + 8] != v {
-        return false;
-    }
-    if px[at + 4] != v {
-        return false;
-    }
-    px[at] == v
+    px[at + 12] == v && px[at + 8] == v && px[at + 4] == v && px[at] == v
 }
 
 // How many of the first `cap` bytes of a channel are equal, counted by fours, the first four being so.
@@ -70,7 +61,7 @@ fn equal_fours(px: &[u8], at: usize, cap: usize) -> usize
     ensures { (4 ≤ result) × (result ≤ cap) × Equal px.now at result }
 {
     let v = px[at];
-    let stop = steps::less(cap, 3);
+    let stop = cap.saturating_sub(3);
     let mut n = 4;
     while n < stop {
         if are_all(px, at + 4 * n, v) {
@@ -88,15 +79,13 @@ fn run_at(px: &[u8], at: usize, left: usize) -> usize
     ensures { Front left (channel px.now at left) result }
 {
     let v = px[at];
-    let cap = steps::least(127, left);
-    let mut n = equal_fours(px, at, cap);
-    while n < cap {
+    let cap = left.min(127);
+    for n in equal_fours(px, at, cap)..cap {
         if px[at + 4 * n] != v {
             return n;
         }
-        n += 1;
     }
-    n
+    cap
 }
 
 // Whether h bytes of a channel are one run of 2 or 3.
@@ -104,13 +93,11 @@ fn is_one_run(px: &[u8], at: usize, h: usize) -> bool
     requires { at + 4 * h < length px.now + 4 }
     ensures { result ≡ one_run (channel px.now at h) }
 {
-    if h == 2 {
-        return px[at + 4] == px[at];
+    match h {
+        2 => px[at + 4] == px[at],
+        3 => px[at + 4] == px[at] && px[at + 8] == px[at + 4],
+        _ => false,
     }
-    if h == 3 {
-        return px[at + 4] == px[at] && px[at + 8] == px[at + 4];
-    }
-    false
 }
 
 // The part whose h bytes gather, and whose long run has `long`.
@@ -118,16 +105,14 @@ fn part_of(px: &[u8], at: usize, h: usize, long: usize) -> Part
     requires { at + 4 * h < length px.now + 4 }
     ensures { result ≡ part_of (channel px.now at h) long }
 {
-    if is_one_run(px, at, h) {
-        return Part {
-            literals: 0,
-            short: h,
-            long,
-        };
-    }
+    let (literals, short) = if is_one_run(px, at, h) {
+        (0, h)
+    } else {
+        (h, 0)
+    };
     Part {
-        literals: h,
-        short: 0,
+        literals,
+        short,
         long,
     }
 }

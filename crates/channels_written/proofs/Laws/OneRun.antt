@@ -2,32 +2,17 @@
 use mathlib.Core.Path.{◌≡◌, refl, sym, ap, ◌∙◌}
 use mathlib.Core.Bool.{Bool, true, false, ◌&&◌, false≢true}
 use mathlib.Core.List.{List, [], ◌∷◌}
-use Prim.Native.Nat.{ℕ, zero, suc, ◌+◌, ◌*◌, ◌≤◌}
+use Prim.Native.Nat.{ℕ, zero, suc, ◌*◌, ◌≤◌}
 use native.Mathlib.Omega.{arith}
 use lib.ListN.{length, get_or}
 use lib.Dec.{eqb}
-use borrow.Author.Tests.{eq-eqb, ne_eqb, eqb-true, eqb-false}
+use borrow.Author.Tests.{eqb-true, eqb-false}
 use Rattle.channels_written.specs.Channel.{Run, grow, cut, bytes, literals, packet, stretch, channel}
 use Rattle.channels_written.specs.Inner.{one_run}
 use Rattle.channels_written.proofs.Laws.Channel.{and_both, grow_same, grow_other, bytes_cut}
 use Rattle.channels_written.proofs.Laws.Cut.{grow_some}
 
--- ---- one run of 2 or 3 bytes of a channel
-
-module _ (px : List ℕ) (at h : ℕ) where
-  pub one_of_2 : h ≡ 2 → eqb (get_or px (at + 4) 0) (get_or px at 0) ≡ one_run (channel px at h)
-  one_of_2 e = rw e
-
-  three : h ≡ 3 → eqb (get_or px (at + 4) 0) (get_or px at 0) && eqb (get_or px (at + 8) 0) (get_or px (at + 4) 0) ≡ one_run (channel px at h)
-  three e = let third : at + 8 ≡ at + 4 + 4 = omega arith in rw (e, third)
-
-  pub one_of_3 : h ≡ 3 → get_or px (at + 4) 0 ≡ get_or px at 0 → eqb (get_or px (at + 8) 0) (get_or px (at + 4) 0) ≡ one_run (channel px at h)
-  one_of_3 e q = simp (eq-eqb (get_or px (at + 4) 0) (get_or px at 0) q) at (three e)
-
-  pub none_of_3 : h ≡ 3 → (get_or px (at + 4) 0 ≡ get_or px at 0 → ⊥) → eqb (get_or px (at + 4) 0) (get_or px at 0) ≡ one_run (channel px at h)
-  none_of_3 e q =
-      let f = ne_eqb (get_or px (at + 4) 0) (get_or px at 0) q in
-      f ∙ (simp f at (three e))
+-- ---- 0, 1 or 4 bytes and more of a channel are no run of 2 or 3
 
 pub none_of : (px : List ℕ) (at h : ℕ) → (h ≡ 2 → ⊥) → (h ≡ 3 → ⊥) → false ≡ one_run (channel px at h)
 none_of px at zero p q = refl

@@ -8,24 +8,9 @@ use Rattle.channels_written.proofs.gathered.Goals as goal
 pub loop-h-init : goal.loop-h-init
 loop-h-init c = (omega arith, looks_first _ _ _)
 
-pub overflow_mul-h : goal.overflow_mul-h
-overflow_mul-h c = omega arith
-
-pub overflow_add-at : goal.overflow_add-at
-overflow_add-at c = omega arith
-
-pub skip-d-requires : goal.skip-d-requires
-skip-d-requires c = omega arith
-
 pub returns-then-d-eq0 : goal.returns-then-d-eq0
 returns-then-d-eq0 c =
     (c.loop-h.invariant.1.gathers, inr (omega arith, c.skip-d.ensures.equal c.if-d-eq0.true))
-
-pub overflow_add-h : goal.overflow_add-h
-overflow_add-h c = omega (arith, c.skip-d.ensures.small)
-
-pub loop-h-smaller : goal.loop-h-smaller
-loop-h-smaller c = omega (arith, c.skip-d.ensures.small)
 
 pub loop-h-preserved : goal.loop-h-preserved
 loop-h-preserved c =

@@ -6,5 +6,5 @@ use Rattle.channels_written.proofs.part_of.Goals as goal
 pub returns-then-is_one_run : goal.returns-then-is_one_run
 returns-then-is_one_run c = simp (sym c.is_one_run.ensures ∙ c.if-is_one_run.true, length_channel)
 
-pub returns : goal.returns
-returns c = simp (sym c.is_one_run.ensures ∙ c.if-is_one_run.false, length_channel)
+pub returns-else-is_one_run : goal.returns-else-is_one_run
+returns-else-is_one_run c = simp (sym c.is_one_run.ensures ∙ c.if-is_one_run.false, length_channel)
