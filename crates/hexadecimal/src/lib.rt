@@ -1,161 +1,123 @@
 // The last field of a line: bytes or samples in hexadecimal.
 #![tactic(auto)]
 
-ghost use Rattle.std.specs.Prelude.{◌≡◌, ◌≤◌, ◌<◌, length, drop};
+ghost use Rattle.std.specs.Prelude.{◌≡◌, ℕ, ◌^◌, ◌≤◌, ◌<◌, length, drop, IfSome};
 ghost use Rattle.std.specs.Float.{binary32};
 ghost use Rattle.std.specs.Float.Ieee.{of_bits};
 ghost use Rattle.hexadecimal.specs.Digits.{worth, numeral_from};
-ghost use Rattle.hexadecimal.specs.Hex.{is_dash, count_of, bytes_read, samples_read};
+ghost use Rattle.hexadecimal.specs.Hex.{count_of, values_read};
+ghost use Rattle.std.proofs.Common.{rules};
 
-// A number that is written, or none.
-#[derive(Clone, Copy)]
-pub enum Number {
-    Is(usize),
-    Missing,
+// A value that so many digits write, at most 8; it is that of the number that they stand for.
+pub trait Written: Copy {
+    ghost DIGITS: { ℕ };
+
+    ghost value: { ℕ → Self };
+
+    const DIGITS: usize;
+
+    // The value of a number.
+    fn of(n: usize) -> Self
+        requires { n < 16 ^ DIGITS }
+        ensures { result ≡ value n };
+
+    ghost few: { (0 < DIGITS) × (DIGITS ≤ 8) };
 }
 
-// The worth of a digit; 16 for a byte that is none.
-fn digit(b: u8) -> usize
+impl Written for u8 {
+    ghost DIGITS = { 2 };
+
+    ghost value = { λ n. n };
+
+    const DIGITS: usize = 2;
+
+    fn of(n: usize) -> u8 {
+        n as u8
+    }
+
+    ghost few = { Prim.search rules };
+}
+
+impl Written for f32 {
+    ghost DIGITS = { 8 };
+
+    ghost value = { of_bits binary32 };
+
+    const DIGITS: usize = 8;
+
+    // A pattern that is no number's stands for no number.
+    fn of(n: usize) -> f32 {
+        let bits = n as u32;
+        if 0x7f80_0000 < bits % 0x8000_0000 {
+            return 0.0 / 0.0;
+        }
+        f32::from_bits(bits)
+    }
+
+    ghost few = { Prim.search rules };
+}
+
+// The worth of a digit.
+#[tactic(auto, unfolding(crate::specs::Digits::worth))]
+fn digit(b: u8) -> Option<usize>
     ensures { result ≡ worth b }
 {
-    if b < 48 {
-        return 16;
+    match b {
+        b'0'..=b'9' => Some(usize::from(b - b'0')),
+        b'a'..=b'f' => Some(usize::from(b - b'a') + 10),
+        _ => None,
     }
-    if b <= 57 {
-        return steps::wide(b - 48);
-    }
-    if b < 97 {
-        return 16;
-    }
-    if b <= 102 {
-        return steps::wide(b - 87);
-    }
-    16
 }
 
 // The number that at most 8 digits stand for.
-fn numeral(digits: &[u8]) -> Number
+#[tactic(auto, using(crate::proofs::Laws::Digits::digit_by_digit))]
+fn numeral(digits: &[u8]) -> Option<usize>
     requires { length digits.now ≤ 8 }
     ensures { result ≡ numeral_from 0 digits.now }
 {
     let mut n = 0;
-    let mut i = 0;
-    while i < digits.len() {
-        let d = digit(digits[i]);
-        if 16 <= d {
-            return Number::Missing;
-        }
-        n = n * 16 + d;
-        i += 1;
+    for b in digits {
+        n = n * 16 + digit(*b)?;
     }
-    Number::Is(n)
-}
-
-// Whether a field is `-`, which writes no value.
-fn is_dash(field: &[u8]) -> bool
-    ensures { result ≡ is_dash field.now }
-{
-    if field.len() != 1 {
-        return false;
-    }
-    field[0] == 45
+    Some(n)
 }
 
 // How many values a field writes, with so many digits to a value.
-fn count(field: &[u8], digits: usize) -> Number
+#[tactic(auto, unfolding(crate::specs::Hex::count_of))]
+fn count(field: &[u8], digits: usize) -> Option<usize>
     requires { 0 < digits }
     ensures { result ≡ count_of digits field.now }
 {
-    if is_dash(field) {
-        return Number::Is(0);
+    match field {
+        b"-" => Some(0),
+        [] => None,
+        _ if field.len() % digits != 0 => None,
+        _ => Some(field.len() / digits),
     }
-    if field.len() == 0 {
-        return Number::Missing;
-    }
-    if field.len() % digits != 0 {
-        return Number::Missing;
-    }
-    Number::Is(field.len() / digits)
 }
 
-// The bytes that a field writes, to the start of `bytes`; how many they are.
-fn bytes_of(field: &[u8], bytes: &mut [u8]) -> Number
-    ensures { (result, bytes.new) ≡ bytes_read field.now bytes.old }
+// The values that a field writes, to the start of `values`; how many they are.
+fn values_of<T: Written>(field: &[u8], values: &mut [T]) -> Option<usize>
+    ensures value { (result, values.new) ≡ values_read T.value T.DIGITS field.now values.old }
+    ensures fits { IfSome result (λ n. n ≤ length values.new) }
 {
-    let Number::Is(n) = count(field, 2) else {
-        return Number::Missing;
-    };
-    if bytes.len() < n {
-        return Number::Missing;
+    let size = T::DIGITS;
+    let n = count(field, size)?;
+    if values.len() < n {
+        return None;
     }
-    let mut k = 0;
-    while k < n {
-        let value = numeral(&field[2 * k..2 * k + 2]);
-        match value {
-            Number::Is(b) => {
-                bytes[k] = b as u8;
-            }
-            Number::Missing => {
-                return Number::Missing;
-            }
-        }
-        k += 1;
+    for k in 0..n {
+        let digits = &field[size * k..size * k + size];
+        values[k] = T::of(numeral(digits)?);
     }
-    Number::Is(n)
+    Some(n)
 }
 
-// The sample of a bit pattern. One that is no number's stands for no number.
-fn sample_of(bits: u32) -> f32
-    ensures { result ≡ of_bits binary32 bits }
+// The values that the line from `at` on writes.
+#[tactic(auto, unfolding(crate::specs::Hex::count_of))]
+pub fn values_at<T: Written>(line: &[u8], at: usize, values: &mut [T]) -> Option<usize>
+    ensures value { (result, values.new) ≡ values_read T.value T.DIGITS (drop at line.now) values.old }
+    ensures fits { IfSome result (λ n. n ≤ length values.new) }
 {
-    if 2139095040 < bits % 2147483648 {
-        return 0.0 / 0.0;
-    }
-    f32::from_bits(bits)
-}
-
-// The samples that a field writes, to the start of `samples`; how many they are.
-fn samples_of(field: &[u8], samples: &mut [f32]) -> Number
-    ensures { (result, samples.new) ≡ samples_read field.now samples.old }
-{
-    let Number::Is(n) = count(field, 8) else {
-        return Number::Missing;
-    };
-    if samples.len() < n {
-        return Number::Missing;
-    }
-    let mut k = 0;
-    while k < n {
-        let value = numeral(&field[8 * k..8 * k + 8]);
-        match value {
-            Number::Is(bits) => {
-                samples[k] = sample_of(bits as u32);
-            }
-            Number::Missing => {
-                return Number::Missing;
-            }
-        }
-        k += 1;
-    }
-    Number::Is(n)
-}
-
-// The bytes that the line from `at` on writes.
-pub fn bytes_at(line: &[u8], at: usize, bytes: &mut [u8]) -> Number
-    ensures { (result, bytes.new) ≡ bytes_read (drop at line.now) bytes.old }
-{
-    if line.len() < at {
-        return Number::Missing;
-    }
-    bytes_of(&line[at..], bytes)
-}
-
-// The samples that the line from `at` on writes.
-pub fn samples_at(line: &[u8], at: usize, samples: &mut [f32]) -> Number
-    ensures { (result, samples.new) ≡ samples_read (drop at line.now) samples.old }
-{
-    if line.len() < at {
-        return Number::Missing;
-    }
-    samples_of(&line[at..], samples)
+    values_of(line.get(at..)?, values)
 }

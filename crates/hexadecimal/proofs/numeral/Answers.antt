@@ -1,23 +1,7 @@
--- `hexadecimal::numeral` meets its contract. The invariant: what is left of the digits, after n, gives the same number.
+-- `hexadecimal::numeral` meets its contract: a digit more is still below the power of 16.
 use borrow.Author.Rules.{rules}
-use mathlib.Core.Path.{refl}
-use Rattle.hexadecimal.proofs.Laws.Digits.{numeral_end, numeral_more, numeral_none, longer_small, longer_fits, product_fits}
+use Rattle.hexadecimal.proofs.Laws.Digits.{worth_small, numeral_more, longer_small}
 use Rattle.hexadecimal.proofs.numeral.Goals as goal
 
-pub loop-i-init : goal.loop-i-init
-loop-i-init c = (search rules, search rules, refl)
-
-pub returns-then-d-ge16 : goal.returns-then-d-ge16
-returns-then-d-ge16 c = search numeral_none
-
-pub overflow_mul-n : goal.overflow_mul-n
-overflow_mul-n c = record { fits = search product_fits }
-
-pub overflow_add-n : goal.overflow_add-n
-overflow_add-n c = record { fits = search longer_fits }
-
-pub loop-i-preserved : goal.loop-i-preserved
-loop-i-preserved c = (search rules, search longer_small, search numeral_more)
-
-pub returns : goal.returns
-returns c = search numeral_end
+pub loop-b-preserved : goal.loop-b-preserved
+loop-b-preserved c = (longer_small _ _ c.loop-b.invariant.0 _ (search (rules, worth_small)), search (rules, numeral_more))
