@@ -2,8 +2,10 @@
 use Rattle.std.specs.Prelude.{ℕ, ◌+◌, ◌-◌, ◌*◌, min, List, Bool, length, get_or, replicate, ltb}
 use Rattle.steps.specs.Loop.{pick, Turn, more, halt, run}
 use Rattle.steps.specs.Place.{bytes_from, spread}
-use Rattle.steps.specs.declared.Taken.{Taken}
-use Rattle.steps.specs.declared.Taken.TheVariants.{Done, Fault}
+use Rattle.steps.specs.Answer.{Taken}
+use Rattle.std.specs.Prelude.{Ok, Err}
+use Rattle.steps.specs.declared.refusal.Reason.{Reason}
+use Rattle.steps.specs.declared.refusal.Reason.TheVariants.{BrokenRow, BytesEnd}
 use Rattle.steps.specs.declared.Reading.{Reading}
 use Rattle.steps.specs.declared.Reading.TheVariants.{Crate, Document}
 
@@ -47,11 +49,11 @@ span_of src channel c n x = record {
 
 -- ---- What a reading does with a count
 
--- so many of the bytes that it asks for are put into the channel; or the row is at fault, by the number of its refusal; or so many literal
+-- so many of the bytes that it asks for are put into the channel; or the row is at fault, by the reason of its refusal; or so many literal
 -- bytes are put, and then the row is at fault by 9, since the next is missing
 pub data Count : Type 0 where
   span : ℕ → Count
-  fault : ℕ → Count
+  fault : Reason → Count
   short : ℕ → Count
 
 -- of the input, the count's place, how many bytes of the channel are done, and the width
@@ -68,14 +70,14 @@ behind src at = length src - (at + 1)
 
 -- "missing bytes are 9 always": of a run nothing is put, and of literals those that are there
 abbrev pub lacking : List ℕ → ℕ → ℕ → Count
-lacking src at c = pick (is_run c) (fault 9) (short (behind src at))
+lacking src at c = pick (is_run c) (fault BytesEnd) (short (behind src at))
 
 -- the document reading: 14 for "a count .. that passes the row's end", before its bytes are looked at; "a count .. at fault writes nothing"
 unfoldable pub document_count : CountRule
 document_count src at done width =
     let c = get_or src at 0 in
     let n = span_length c in
-    pick (ltb (width - done) n) (fault 14)
+    pick (ltb (width - done) n) (fault BrokenRow)
     (pick (ltb (behind src at) (span_taken c n)) (lacking src at c) (span n))
 
 -- by either reading
@@ -88,19 +90,19 @@ count_rule Document = document_count
 -- what a count does: its bytes are put, or the row is at fault
 abbrev pub counted : List ℕ → ℕ → Chan → Count → Turn Chan (Taken × List ℕ)
 counted src channel x (span n) = more (span_of src channel (get_or src x.at 0) n x)
-counted src channel x (fault number) = halt (Fault number, x.store)
-counted src channel x (short n) = halt (Fault 9, (span_of src channel (get_or src x.at 0) n x).store)
+counted src channel x (fault reason) = halt (Err reason, x.store)
+counted src channel x (short n) = halt (Err BytesEnd, (span_of src channel (get_or src x.at 0) n x).store)
 
 -- one more count, until the row's end; "A missing count is refusal 9"
 unfoldable pub channel_turn : CountRule → List ℕ → ℕ → ℕ → Chan → Turn Chan (Taken × List ℕ)
 channel_turn rule src channel width x =
     pick (ltb x.done width)
-    (pick (ltb x.at (length src)) (counted src channel x (rule src x.at x.done width)) (halt (Fault 9, x.store)))
-    (halt (Done x.at, x.store))
+    (pick (ltb x.at (length src)) (counted src channel x (rule src x.at x.done width)) (halt (Err BytesEnd, x.store)))
+    (halt (Ok x.at, x.store))
 
 -- where the turns are used up, which never happens
 abbrev pub channel_out : Chan → Taken × List ℕ
-channel_out x = (Fault 9, x.store)
+channel_out x = (Err BytesEnd, x.store)
 
 -- the channel, from a place of the input on. Each turn but the last takes a byte, so the turns never run out
 unfoldable pub channel_of : CountRule → List ℕ → ℕ → List ℕ → ℕ → ℕ → Taken × List ℕ

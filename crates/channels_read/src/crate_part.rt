@@ -1,27 +1,28 @@
-// One channel by the crate reading.
+// Counts by the crate reading.
 ghost use Rattle.std.specs.Prelude.{◌≡◌, ◌*◌, ◌≤◌, ◌<◌, length};
-ghost use Rattle.channels_read.specs.Channel.{crate_count, channel_of};
+ghost use Rattle.channels_read.specs.Channel.{crate_count};
 
-use steps::{Taken, refusal};
+use crate::channel::Counts;
+use crate::span;
+use crate::span::Span;
+use steps::refusal::Reason;
 
-// Every fourth place of the store from the channel's own. A count stops at the row's end.
-pub(crate) fn read(src: &[u8], at: usize, store: &mut [u8], channel: usize, width: usize) -> Taken
-    requires { (channel < 4) × (4 * width ≤ length store.old) }
-    ensures { (result, store.new) ≡ channel_of crate_count src.now at store.old channel width }
-{
-    let mut p = at;
-    let mut done = 0;
-    while done < width {
-        if src.len() <= p {
-            return Taken::Fault {
-                number: refusal::BYTES_END,
-            };
-        }
-        let c = steps::wide(src[p]);
-        let n = steps::least(crate::span_length(c), width - done);
-        let s = crate::put_span(src, p, store, channel, done, c, n);
-        p = s.next;
-        done = s.done;
+// A count stops at the row's end.
+pub(crate) struct CrateCounts;
+
+impl Counts for CrateCounts {
+    ghost rule = { crate_count };
+
+    fn put(
+        src: &[u8],
+        p: usize,
+        store: &mut [u8],
+        channel: usize,
+        done: usize,
+        width: usize,
+    ) -> Result<Span, Reason> {
+        let c = usize::from(src[p]);
+        let n = span::length(c).min(width - done);
+        Ok(span::put(src, p, store, channel, done, c, n))
     }
-    Taken::Done { next: p }
 }

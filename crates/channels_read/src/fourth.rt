@@ -3,37 +3,34 @@ ghost use Rattle.std.specs.Prelude.{◌≡◌, ◌+◌, ◌*◌, ◌-◌, ◌≤
 ghost use Rattle.steps.specs.Place.{spread, bytes_from};
 
 // The byte v, n times.
+#[tactic(auto, using(steps::proofs::Laws::Place::run_start, steps::proofs::Laws::Place::run_next))]
 pub(crate) fn put_run(store: &mut [u8], from: usize, n: usize, v: u8)
     requires { from + 4 * n ≤ length store.old + 3 }
     ensures { store.new ≡ spread 4 store.old from (replicate n v) }
 {
-    let mut i = from;
-    let mut left = n;
-    while 0 < left {
-        store[i] = v;
-        i += 4;
-        left -= 1;
+    for k in 0..n {
+        store[from + 4 * k] = v;
     }
 }
 
 // The n bytes of src from p on, which are all there.
+#[tactic(auto, using(steps::proofs::Laws::Place::literal_start, steps::proofs::Laws::Place::literal_next))]
 fn put_known(src: &[u8], p: usize, store: &mut [u8], from: usize, n: usize)
     requires { (n ≤ length src.now - p) × (from + 4 * n ≤ length store.old + 3) }
     ensures { store.new ≡ spread 4 store.old from (bytes_from src.now p n) }
 {
-    let mut k = 0;
-    while k < n {
+    for k in 0..n {
         store[from + 4 * k] = src[p + k];
-        k += 1;
     }
 }
 
 // The n bytes of src from p on, 0 for a missing one.
+#[tactic(auto, using(crate::proofs::Laws::Fourth::literals_put))]
 pub(crate) fn put_literals(src: &[u8], p: usize, store: &mut [u8], from: usize, n: usize)
     requires { (p ≤ length src.now) × (from + 4 * n ≤ length store.old + 3) }
     ensures { store.new ≡ spread 4 store.old from (bytes_from src.now p n) }
 {
-    let known = steps::least(n, src.len() - p);
+    let known = n.min(src.len() - p);
     put_known(src, p, store, from, known);
     put_run(store, from + 4 * known, n - known, 0);
 }

@@ -2,8 +2,9 @@
 use Rattle.std.specs.Prelude.{ℕ, zero, suc, ◌+◌, ◌-◌, ◌*◌, ◌^◌, min, List, [], ◌++◌, Bool, ◌&&◌, length, get_or, ltb, eqb}
 use Rattle.steps.specs.Loop.{pick, Turn, more, halt, run}
 use Rattle.steps.specs.Place.{bytes_from, spread}
-use Rattle.steps.specs.declared.Taken.{Taken}
-use Rattle.steps.specs.declared.Taken.TheVariants.{Done, Fault}
+use Rattle.steps.specs.Answer.{Taken}
+use Rattle.std.specs.Prelude.{Ok, Err}
+use Rattle.steps.specs.declared.refusal.Reason.TheVariants.{BrokenRow, BytesEnd, OldRun}
 use Rattle.steps.specs.declared.Reading.{Reading}
 use Rattle.steps.specs.declared.Reading.TheVariants.{Crate, Document}
 
@@ -43,7 +44,7 @@ pub record FlatRule : Type 0 where
 -- The crate reading: "four bytes, each missing one refused, go one by one as read to the current place"; those of 1,1,1,n too, which is
 -- refused by "25 .. when the fourth byte of such a pixel has been read".
 unfoldable pub crate_flat : FlatRule
-crate_flat = record { missing = λ src x. (stored src x).store; ones = λ src x. halt (Fault 25, (stored src x).store) }
+crate_flat = record { missing = λ src x. (stored src x).store; ones = λ src x. halt (Err OldRun, (stored src x).store) }
 
 -- n times the bytes q
 abbrev pub copies : ℕ → List ℕ → List ℕ
@@ -66,8 +67,8 @@ repeated x n = flat (x.at + 4) (x.place + 4 * n) (x.wanted - n) (x.repeats + 1) 
 -- row", and for one "that passes the row's end". A row's pixels stand in the store from place 0 on, so that none ends before place 4.
 unfoldable pub document_ones : List ℕ → Flat → Turn Flat (Taken × List ℕ)
 document_ones src x =
-    pick (ltb x.place 4) (halt (Fault 14, x.store))
-    (pick (ltb x.wanted (times_of src x)) (halt (Fault 14, x.store)) (more (repeated x (times_of src x))))
+    pick (ltb x.place 4) (halt (Err BrokenRow, x.store))
+    (pick (ltb x.wanted (times_of src x)) (halt (Err BrokenRow, x.store)) (more (repeated x (times_of src x))))
 
 unfoldable pub document_flat : FlatRule
 document_flat = record { missing = λ src x. x.store; ones = document_ones }
@@ -88,13 +89,13 @@ unfoldable pub flat_turn : FlatRule → List ℕ → Flat → Turn Flat (Taken �
 flat_turn rule src x =
     pick (ltb 0 x.wanted)
     (pick (ltb (length src) (x.at + 4))
-    (halt (Fault 9, rule.missing src x))
+    (halt (Err BytesEnd, rule.missing src x))
     (pick (is_repeat src x.at) (rule.ones src x) (more (ordinary (stored src x)))))
-    (halt (Done x.at, x.store))
+    (halt (Ok x.at, x.store))
 
 -- where the turns are used up, which never happens
 abbrev pub flat_out : Flat → Taken × List ℕ
-flat_out x = (Fault 9, x.store)
+flat_out x = (Err BytesEnd, x.store)
 
 -- the part that starts at byte `start` of the store. Each turn but the last takes four bytes, so the turns never run out
 unfoldable pub flat_of : FlatRule → List ℕ → ℕ → List ℕ → ℕ → ℕ → Taken × List ℕ

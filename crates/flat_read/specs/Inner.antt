@@ -2,7 +2,7 @@
 use Prim.{Unit}
 use Rattle.std.specs.Prelude.{ℕ, ◌+◌, ◌*◌, ◌≤◌, List}
 use Rattle.steps.specs.Loop.{Turn, more, halt}
-use Rattle.steps.specs.declared.Taken.{Taken}
+use Rattle.steps.specs.Answer.{Taken}
 use Rattle.steps.specs.declared.Taken.TheVariants as taken
 use Rattle.flat_read.specs.Flat.{Flat, flat}
 use Rattle.flat_read.specs.declared.document.Step.{Step}

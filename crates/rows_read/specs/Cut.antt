@@ -1,7 +1,7 @@
 -- The cut that the crate reading does not refuse: bytes that end inside what the last count of a coded row asks for.
 use Rattle.std.specs.Prelude.{ℕ, ◌+◌, ◌-◌, ◌<◌, ◌≤◌, false, List, ◌++◌, ◌≡◌, length, get_or, drop, replicate}
 use Rattle.steps.specs.Loop.{Turns}
-use Rattle.steps.specs.declared.Taken.TheVariants.{Done}
+use Rattle.std.specs.Prelude.{Ok}
 use Rattle.channels_read.specs.Channel.{Chan, chan, crate_count, span_length, span_taken, channel_turn, channel_of}
 use Rattle.rows_read.specs.declared.kind.Kind.TheVariants.{Channels}
 use Rattle.rows_read.specs.Row.{is_flat_width, kind_of, crate_start}
@@ -41,9 +41,9 @@ pub record CutRow (src : List ℕ) (at : ℕ) (store : List ℕ) (width : ℕ) :
   pub reds : List ℕ
   pub greens : List ℕ
   pub blues : List ℕ
-  pub first : channel_of crate_count src (at + 4) (crate_start src at store) 0 width ≡ (Done green, reds)
-  pub second : channel_of crate_count src green reds 1 width ≡ (Done blue, greens)
-  pub third : channel_of crate_count src blue greens 2 width ≡ (Done exponent, blues)
+  pub first : channel_of crate_count src (at + 4) (crate_start src at store) 0 width ≡ (Ok green, reds)
+  pub second : channel_of crate_count src green reds 1 width ≡ (Ok blue, greens)
+  pub third : channel_of crate_count src blue greens 2 width ≡ (Ok exponent, blues)
   pub counts : ℕ
   pub end : Chan
   pub after : After src 3 width counts (chan exponent 0 blues) end

@@ -1,20 +1,20 @@
 -- A row in the middle of bytes: what stands before it and behind it changes nothing but places.
 use Rattle.std.specs.Prelude.{ℕ, ◌+◌, ◌<◌, ◌≤◌, List, ◌++◌, ◌≡◌, length, take}
-use Rattle.steps.specs.declared.Taken.{Taken}
-use Rattle.steps.specs.declared.Taken.TheVariants.{Done, Fault}
+use Rattle.steps.specs.Answer.{Taken}
+use Rattle.std.specs.Prelude.{Ok, Err}
 use Rattle.steps.specs.declared.Reading.{Reading}
 use Rattle.steps.specs.declared.Reading.TheVariants.{Crate, Document}
 use Rattle.rows_read.specs.Row.{RowRule}
 
 -- An answer in which no missing byte has a part, of n bytes: the next place lies before their end, or the fault is not that bytes are missing.
 abbrev pub Settled : ℕ → Taken → Type 0
-Settled n (Done next) = next < n
-Settled n (Fault number) = number ≡ 9 → ⊥
+Settled n (Ok next) = next < n
+Settled n (Err reason) = reason ≡ 9 → ⊥
 
 -- an answer where n bytes more stand before
 abbrev pub later : ℕ → Taken → Taken
-later n (Done next) = Done (n + next)
-later n (Fault number) = Fault number
+later n (Ok next) = Ok (n + next)
+later n (Err reason) = Err reason
 
 -- bytes before a row: it is the same, so many places later
 abbrev pub Before : RowRule → Type 0
@@ -34,8 +34,8 @@ Alike n src other = (n ≤ length src) × (n ≤ length other) × (take n other 
 -- An answer that rests on the first n bytes of `long`: none behind them was taken, or the fault is not that bytes are missing and those are all.
 -- Where a reading takes a row whose last bytes are missing, `gap` bytes behind those taken show that none was.
 abbrev pub Rests : ℕ → ℕ → ℕ → Taken → Type 0
-Rests gap long n (Done next) = (next ≤ n) × (next + gap ≤ long)
-Rests gap long n (Fault number) = (number ≡ 9 → ⊥) × (long ≤ n)
+Rests gap long n (Ok next) = (next ≤ n) × (next + gap ≤ long)
+Rests gap long n (Err reason) = (reason ≡ 9 → ⊥) × (long ≤ n)
 
 -- one in the crate reading (RULES 4.8); the document reading refuses every missing byte
 abbrev pub gap_of : Reading → ℕ

@@ -6,8 +6,9 @@ use Rattle.steps.specs.Width.{is_coded}
 use Rattle.channels_read.specs.Channel.{count_rule}
 use Rattle.channels_read.specs.Channels.{channels_of}
 use Rattle.flat_read.specs.Flat.{flat_rule, flat_of}
-use Rattle.steps.specs.declared.Taken.{Taken}
-use Rattle.steps.specs.declared.Taken.TheVariants.{Fault}
+use Rattle.steps.specs.Answer.{Taken}
+use Rattle.std.specs.Prelude.{Err}
+use Rattle.steps.specs.declared.refusal.Reason.TheVariants.{BrokenRow, BytesEnd}
 use Rattle.steps.specs.declared.Reading.{Reading}
 use Rattle.steps.specs.declared.Reading.TheVariants.{Crate, Document}
 use Rattle.rows_read.specs.declared.kind.Kind.{Kind}
@@ -50,10 +51,10 @@ pub record RowParts : Type 0 where
 
 -- after a pixel 0 "the rest is a flat part of w - 1 pixels", from byte 4 of the store on; 14 "for a wrong mark width"
 abbrev pub rest_by : RowParts → List ℕ → ℕ → ℕ → Kind → List ℕ → Taken × List ℕ
-rest_by parts src at width Missing store = (Fault 9, store)
+rest_by parts src at width Missing store = (Err BytesEnd, store)
 rest_by parts src at width Flat store = parts.flat src at store 0 width
 rest_by parts src at width (Pixel next) store = parts.flat src next store 4 (width - 1)
-rest_by parts src at width (Channels next) store = pick (parts.mark src at width) (parts.channels src next store width) (Fault 14, store)
+rest_by parts src at width (Channels next) store = pick (parts.mark src at width) (parts.channels src next store width) (Err BrokenRow, store)
 
 -- the row from a place of the input on
 unfoldable pub row_by : RowParts → RowRule

@@ -13,8 +13,10 @@ use Rattle.steps.specs.Place.{bytes_from, spread}
 use Rattle.steps.proofs.Laws.Loop.{Runs, runs_start, runs_more, runs_halt}
 use Rattle.steps.proofs.Laws.Order.{by_order}
 use Rattle.steps.proofs.Laws.Turns.{by_test, Falls, never_out}
-use Rattle.steps.specs.declared.Taken.{Taken}
-use Rattle.steps.specs.declared.Taken.TheVariants.{Done, Fault}
+use Rattle.steps.specs.Answer.{Taken}
+use Rattle.std.specs.Prelude.{Ok, Err}
+use Rattle.steps.specs.declared.refusal.Reason.{Reason}
+use Rattle.steps.specs.declared.refusal.Reason.TheVariants.{BrokenRow, BytesEnd}
 use Rattle.steps.specs.declared.Reading.{Reading}
 use Rattle.steps.specs.declared.Reading.TheVariants.{Crate, Document}
 use Rattle.channels_read.specs.Channel.{Chan, chan, Count, span, fault, short, CountRule, crate_count, document_count, count_rule, behind, lacking, counted, channel_of, channel_out, channel_turn, is_run, span_bytes, span_length, span_of, span_taken}
@@ -62,7 +64,7 @@ span_onward src channel c n x h = omega arith
 -- no bytes are put past the row's end
 abbrev pub PutsInside : ℕ → ℕ → Count → Type 0
 PutsInside done width (span n) = done + n ≤ width
-PutsInside done width (fault number) = Unit {0}
+PutsInside done width (fault reason) = Unit {0}
 PutsInside done width (short n) = done + n ≤ width
 
 abbrev pub StaysInside : CountRule → Type 0
@@ -98,7 +100,7 @@ lacks_run there c n h = rw (taken_run c n h)
 pub lacks_literals : (there c n : ℕ) → c ≤ 128 → ltb there n ≡ ltb there (span_taken c n)
 lacks_literals there c n h = rw (taken_literals c n h)
 
-pub lacking_run : (src : List ℕ) (p c : ℕ) → 128 < c → lacking src p c ≡ fault 9
+pub lacking_run : (src : List ℕ) (p c : ℕ) → 128 < c → lacking src p c ≡ fault BytesEnd
 unfolding is_run
 lacking_run src p c h = simp (lt-ltb 128 c h)
 
@@ -107,15 +109,15 @@ unfolding is_run
 lacking_literals src p c h = simp (le-ltb 128 c h)
 
 -- what the code puts of a count that lacks bytes
-pub put_none : (src : List ℕ) (channel p done c : ℕ) (store : List ℕ) → 128 < c → counted src channel (chan p done store) (lacking src p c) ≡ halt (Fault 9, store)
+pub put_none : (src : List ℕ) (channel p done c : ℕ) (store : List ℕ) → 128 < c → counted src channel (chan p done store) (lacking src p c) ≡ halt (Err BytesEnd, store)
 put_none src channel p done c store h = rw (lacking_run src p c h)
 
 pub put_some : (src : List ℕ) (channel p done c next done' n : ℕ) (store store' : List ℕ) → c ≤ 128 → c ≡ get_or src p 0 → n ≡ length src
-    → chan next done' store' ≡ span_of src channel c (n - (p + 1)) (chan p done store) → counted src channel (chan p done store) (lacking src p c) ≡ halt (Fault 9, store')
+    → chan next done' store' ≡ span_of src channel c (n - (p + 1)) (chan p done store) → counted src channel (chan p done store) (lacking src p c) ≡ halt (Err BytesEnd, store')
 put_some src channel p done c next done' n store store' h ec en e = rw (lacking_literals src p c h, ← ec, ← en, ← e)
 
 module _ (src : List ℕ) (p done width c n : ℕ) (ec : c ≡ get_or src p 0) (en : n ≡ span_length c) where
-  pub document_past : width - done < n → document_count src p done width ≡ fault 14
+  pub document_past : width - done < n → document_count src p done width ≡ fault BrokenRow
   unfolding document_count
   document_past h = rw (← ec, ← en) (simp (lt-ltb (width - done) n h))
 
@@ -142,9 +144,9 @@ unfolding document_count
 document_spans src at done width k l =
     let c : ℕ = get_or src at 0 in
     let n : ℕ = span_length c in
-    by_test L (ltb (width - done) n) (λ t e. absurd (no_span 14 k e))
+    by_test L (ltb (width - done) n) (λ t e. absurd (no_span BrokenRow k e))
     (λ t. by_test L (ltb (behind src at) (span_taken c n))
-    (λ u. by_test L (is_run c) (λ _ e. absurd (no_span 9 k e)) (λ _ e. absurd (no_short _ k e)))
+    (λ u. by_test L (is_run c) (λ _ e. absurd (no_span BytesEnd k e)) (λ _ e. absurd (no_short _ k e)))
     (λ u e. let is : n ≡ k = cc in
     let there = ltb-false (behind src at) (span_taken c n) u in
     (sym is, subst (λ (i : ℕ). at + 1 + span_taken c i ≤ length src) is (omega arith))))
@@ -152,8 +154,8 @@ document_spans src at done width k l =
     L : Count → Type 0
     L z = z ≡ span k → (k ≡ span_length (get_or src at 0)) × (at + 1 + span_taken (get_or src at 0) k ≤ length src)
 
-    no_span : (number k : ℕ) → ◌≡◌ {A = Count} (fault number) (span k) → ⊥
-    no_span number k e = let z : ◌≡◌ {A = ℕ} 0 1 = cc in omega arith
+    no_span : (reason : Reason) (k : ℕ) → ◌≡◌ {A = Count} (fault reason) (span k) → ⊥
+    no_span reason k e = let z : ◌≡◌ {A = ℕ} 0 1 = cc in omega arith
 
     no_short : (n k : ℕ) → ◌≡◌ {A = Count} (short n) (span k) → ⊥
     no_short n k e = let z : ◌≡◌ {A = ℕ} 0 1 = cc in omega arith
@@ -185,10 +187,10 @@ reading_whole Document = document_whole
 -- case by case
 pub channel_cases : (rule : CountRule) (src : List ℕ) (channel width : ℕ) (x : Chan) (L : Turn Chan (Taken × List ℕ) → Type 0)
     → ((n : ℕ) → x.done < width → x.at < length src → rule src x.at x.done width ≡ span n → L (more (span_of src channel (get_or src x.at 0) n x)))
-    → ((number : ℕ) → x.done < width → x.at < length src → rule src x.at x.done width ≡ fault number → L (halt (Fault number, x.store)))
-    → ((n : ℕ) → x.done < width → x.at < length src → rule src x.at x.done width ≡ short n → L (halt (Fault 9, (span_of src channel (get_or src x.at 0) n x).store)))
-    → (x.done < width → length src ≤ x.at → L (halt (Fault 9, x.store)))
-    → (width ≤ x.done → L (halt (Done x.at, x.store))) → L (channel_turn rule src channel width x)
+    → ((reason : Reason) → x.done < width → x.at < length src → rule src x.at x.done width ≡ fault reason → L (halt (Err reason, x.store)))
+    → ((n : ℕ) → x.done < width → x.at < length src → rule src x.at x.done width ≡ short n → L (halt (Err BytesEnd, (span_of src channel (get_or src x.at 0) n x).store)))
+    → (x.done < width → length src ≤ x.at → L (halt (Err BytesEnd, x.store)))
+    → (width ≤ x.done → L (halt (Ok x.at, x.store))) → L (channel_turn rule src channel width x)
 unfolding channel_turn
 channel_cases rule src channel width x L spans faults shorts missing done =
     by_test L (ltb x.done width)
@@ -200,15 +202,15 @@ channel_cases rule src channel width x L spans faults shorts missing done =
   where
     by_count : x.done < width → x.at < length src → (z : Count) → rule src x.at x.done width ≡ z → L (counted src channel x z)
     by_count h k (span n) e = spans n h k e
-    by_count h k (fault number) e = faults number h k e
+    by_count h k (fault reason) e = faults reason h k e
     by_count h k (short n) e = shorts n h k e
 
 module _ (rule : CountRule) (src : List ℕ) (channel width : ℕ) (x : Chan) where
-  pub turn_done : width ≤ x.done → channel_turn rule src channel width x ≡ halt (Done x.at, x.store)
+  pub turn_done : width ≤ x.done → channel_turn rule src channel width x ≡ halt (Ok x.at, x.store)
   unfolding channel_turn
   turn_done h = simp (le-ltb x.done width h)
 
-  pub turn_short : x.done < width → length src ≤ x.at → channel_turn rule src channel width x ≡ halt (Fault 9, x.store)
+  pub turn_short : x.done < width → length src ≤ x.at → channel_turn rule src channel width x ≡ halt (Err BytesEnd, x.store)
   unfolding channel_turn
   turn_short h k = simp (lt-ltb x.done width h, le-ltb x.at (length src) k)
 
@@ -221,8 +223,8 @@ module _ (rule : CountRule) (src : List ℕ) (channel width : ℕ) (x : Chan) wh
       → channel_turn rule src channel width x ≡ more (span_of src channel (get_or src x.at 0) n x)
   turn_span n = turn_count (span n)
 
-  pub turn_fault : (number : ℕ) → x.done < width → x.at < length src → rule src x.at x.done width ≡ fault number → channel_turn rule src channel width x ≡ halt (Fault number, x.store)
-  turn_fault number = turn_count (fault number)
+  pub turn_fault : (reason : Reason) → x.done < width → x.at < length src → rule src x.at x.done width ≡ fault reason → channel_turn rule src channel width x ≡ halt (Err reason, x.store)
+  turn_fault reason = turn_count (fault reason)
 
 -- a turn of the code, over the values that it has in hand
 module _ (src : List ℕ) (channel p done : ℕ) (store : List ℕ) (next done' : ℕ) (store' : List ℕ) (c n : ℕ) where
@@ -252,11 +254,11 @@ module _ (src : List ℕ) (channel p done : ℕ) (store : List ℕ) (next done' 
 module _ (src : List ℕ) (channel p done : ℕ) (store : List ℕ) (c n width : ℕ) (a : Taken × List ℕ)
     (r : Runs (channel_turn document_count src channel width) channel_out (length src - p) (chan p done store) a)
     (h : done < width) (k : p < length src) (ec : c ≡ get_or src p 0) (en : n ≡ span_length c) where
-  pub document_fault : width - done < n → (Fault 14, store) ≡ a
-  document_fault l = runs_halt r (turn_fault document_count src channel width (chan p done store) 14 h k (document_past src p done width c n ec en l))
+  pub document_fault : width - done < n → (Err BrokenRow, store) ≡ a
+  document_fault l = runs_halt r (turn_fault document_count src channel width (chan p done store) BrokenRow h k (document_past src p done width c n ec en l))
 
   pub document_short : (b : Bool) (store' : List ℕ) → n ≤ width - done → b ≡ ltb (behind src p) (span_taken c n) → b ≡ true
-      → counted src channel (chan p done store) (lacking src p c) ≡ halt (Fault 9, store') → (Fault 9, store') ≡ a
+      → counted src channel (chan p done store) (lacking src p c) ≡ halt (Err BytesEnd, store') → (Err BytesEnd, store') ≡ a
   document_short b store' l eb t e =
       runs_halt r (turn_count document_count src channel width (chan p done store) (lacking src p c) h k (document_lacks src p done width c n ec en l b eb t) ∙ e)
 
@@ -280,7 +282,7 @@ pub channel_falls : (rule : CountRule) (src : List ℕ) (channel width : ℕ) (x
 channel_falls rule src channel width x =
     channel_cases rule src channel width x (Falls (λ (y : Chan). length src - y.at) x)
     (λ n h k e. omega (arith, span_onward src channel (get_or src x.at 0) n x k))
-    (λ number h k e. tt)
+    (λ reason h k e. tt)
     (λ n h k e. tt)
     (λ h k. tt)
     (λ h. tt)

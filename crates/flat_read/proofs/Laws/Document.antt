@@ -12,7 +12,7 @@ use Rattle.steps.specs.Loop.{Turn, more, halt}
 use Rattle.steps.specs.Place.{bytes_from, spread}
 use Rattle.steps.proofs.Laws.Loop.{Runs, runs_more, runs_halt}
 use Rattle.steps.proofs.Laws.Place.{spread_then}
-use Rattle.steps.specs.declared.Taken.{Taken}
+use Rattle.steps.specs.Answer.{Taken}
 use Rattle.steps.specs.declared.Taken.TheVariants as taken
 use Rattle.steps.specs.declared.Reading.{Reading}
 use Rattle.steps.specs.declared.Reading.TheVariants.{Crate, Document}

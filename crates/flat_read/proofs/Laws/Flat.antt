@@ -13,8 +13,9 @@ use Rattle.steps.proofs.Laws.Loop.{Runs, runs_start, runs_more, runs_halt}
 use Rattle.steps.proofs.Laws.Order.{by_order}
 use Rattle.steps.proofs.Laws.Taken.{never_both}
 use Rattle.steps.proofs.Laws.Turns.{by_test, Falls, Leads, never_out, run_keeps}
-use Rattle.steps.specs.declared.Taken.{Taken}
-use Rattle.steps.specs.declared.Taken.TheVariants.{Done, Fault}
+use Rattle.steps.specs.Answer.{Taken}
+use Rattle.std.specs.Prelude.{Ok, Err}
+use Rattle.steps.specs.declared.refusal.Reason.TheVariants.{BytesEnd, OldRun}
 use Rattle.steps.specs.declared.Reading.{Reading}
 use Rattle.steps.specs.declared.Reading.TheVariants.{Crate, Document}
 use Rattle.flat_read.specs.Flat.{Flat, FlatRule, flat, crate_flat, document_ones, document_flat, times_of, flat_rule, flat_of, flat_out, flat_turn, four_to, is_repeat, ordinary, stored}
@@ -50,12 +51,12 @@ flat_starts rule src at store start wanted = runs_start _ _ _ _ _ (omega arith)
 -- the loop, over the values that the code has in hand; n is how many bytes the input has left
 module _ (rule : FlatRule) (src : List ℕ) (p place wanted repeats : ℕ) (store : List ℕ) (a : Taken × List ℕ)
     (r : Runs (flat_turn rule src) flat_out (length src - p) (flat p place wanted repeats store) a) where
-  pub flat_done : wanted ≤ 0 → (Done p, store) ≡ a
+  pub flat_done : wanted ≤ 0 → (Ok p, store) ≡ a
   unfolding flat_turn
   flat_done h = runs_halt r (simp (le-ltb 0 wanted h))
 
   module _ (h : 0 < wanted) where
-    pub flat_missing : length src < p + 4 → (Fault 9, rule.missing src (flat p place wanted repeats store)) ≡ a
+    pub flat_missing : length src < p + 4 → (Err BytesEnd, rule.missing src (flat p place wanted repeats store)) ≡ a
     unfolding flat_turn
     flat_missing l = runs_halt r (simp (lt-ltb 0 wanted h, lt-ltb (length src) (p + 4) l))
 
@@ -67,14 +68,14 @@ module _ (rule : FlatRule) (src : List ℕ) (p place wanted repeats : ℕ) (stor
 -- the same by the crate reading
 module _ (src : List ℕ) (p place wanted : ℕ) (store : List ℕ) (a : Taken × List ℕ)
     (r : Runs (flat_turn crate_flat src) flat_out (length src - p) (flat p place wanted 0 store) a) (h : 0 < wanted) (n : ℕ) (en : n ≡ length src - p) where
-  pub flat_short : (store' : List ℕ) → n < 4 → store' ≡ spread 1 store place (bytes_from src p n) → (Fault 9, store') ≡ a
+  pub flat_short : (store' : List ℕ) → n < 4 → store' ≡ spread 1 store place (bytes_from src p n) → (Err BytesEnd, store') ≡ a
   unfolding crate_flat four_to
   flat_short store' l es =
       let m : min 4 (length src - p) ≡ n = omega arith in
       rw (es, ← m) (flat_missing crate_flat src p place wanted 0 store a r h (omega arith))
 
   module _ (store' : List ℕ) (l : 4 ≤ n) (es : store' ≡ spread 1 store place (bytes_from src p 4)) (b : Bool) (eb : b ≡ is_repeat src p) where
-    pub flat_ones : b ≡ true → (Fault 25, store') ≡ a
+    pub flat_ones : b ≡ true → (Err OldRun, store') ≡ a
     unfolding flat_turn crate_flat
     flat_ones t =
         let l' : p + 4 ≤ length src = omega arith in
@@ -89,8 +90,8 @@ module _ (src : List ℕ) (p place wanted : ℕ) (store : List ℕ) (a : Taken �
 pub flat_cases : (rule : FlatRule) (src : List ℕ) (x : Flat) (L : Turn Flat (Taken × List ℕ) → Type 0)
     → (0 < x.wanted → x.at + 4 ≤ length src → is_repeat src x.at ≡ true → L (rule.ones src x))
     → (0 < x.wanted → x.at + 4 ≤ length src → is_repeat src x.at ≡ false → L (more (ordinary (stored src x))))
-    → (0 < x.wanted → L (halt (Fault 9, rule.missing src x)))
-    → (x.wanted ≤ 0 → L (halt (Done x.at, x.store))) → L (flat_turn rule src x)
+    → (0 < x.wanted → L (halt (Err BytesEnd, rule.missing src x)))
+    → (x.wanted ≤ 0 → L (halt (Ok x.at, x.store))) → L (flat_turn rule src x)
 unfolding flat_turn
 flat_cases rule src x L ones pixel missing done =
     by_test L (ltb 0 x.wanted)
@@ -139,10 +140,10 @@ NoRepeat px p n = (i : ℕ) → i < n → is_repeat px (p + 4 * i) ≡ false
 
 -- an answer that is no fault: four bytes for each pixel are taken, all of them there, and none of the pixels starts 1, 1, 1
 pub record Plain (src : List ℕ) (at wanted : ℕ) (a : Taken × List ℕ) : Type 0 where
-  pub upto : (next : ℕ) → a.0 ≡ Done next → (next ≡ at + 4 * wanted) × (0 < wanted → next ≤ length src) × NoRepeat src at wanted
+  pub upto : (next : ℕ) → a.0 ≡ Ok next → (next ≡ at + 4 * wanted) × (0 < wanted → next ≤ length src) × NoRepeat src at wanted
 
-plain_fault : {src : List ℕ} {at wanted number : ℕ} {s : List ℕ} → Plain src at wanted (Fault number, s)
-plain_fault {number = number} = record { upto = λ next e. never_both next number (sym e) }
+plain_fault : {src : List ℕ} {at wanted reason : ℕ} {s : List ℕ} → Plain src at wanted (Err reason, s)
+plain_fault {reason = reason} = record { upto = λ next e. never_both next reason (sym e) }
 
 pub crate_plain : (src : List ℕ) (at : ℕ) (store : List ℕ) (start wanted : ℕ) → Plain src at wanted (flat_of crate_flat src at store start wanted)
 unfolding flat_of crate_flat

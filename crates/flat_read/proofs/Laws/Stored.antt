@@ -14,8 +14,8 @@ use Rattle.steps.proofs.Laws.Order.{by_order}
 use Rattle.steps.proofs.Laws.Place.{length_spread, length_bytes, spread_append, get_or_bytes}
 use Rattle.steps.proofs.Laws.Taken.{never_both}
 use Rattle.steps.proofs.Laws.Turns.{by_test, Leads, run_keeps}
-use Rattle.steps.specs.declared.Taken.{Taken}
-use Rattle.steps.specs.declared.Taken.TheVariants.{Done, Fault}
+use Rattle.steps.specs.Answer.{Taken}
+use Rattle.std.specs.Prelude.{Ok, Err}
 use Rattle.steps.specs.declared.Reading.{Reading}
 use Rattle.steps.specs.declared.Reading.TheVariants.{Crate, Document}
 use Rattle.flat_read.specs.Flat.{Flat, flat, copies, copies_to, times_of, crate_flat, document_ones, document_flat, flat_rule, flat_of, flat_out, flat_turn, is_repeat, ordinary, stored, repeated}
@@ -78,7 +78,7 @@ record Clean (all : ℕ) (x : Flat) : Type 0 where
 
 -- the store of an answer that is no fault
 record Stored (all : ℕ) (a : Taken × List ℕ) : Type 0 where
-  none : (next : ℕ) → a.0 ≡ Done next → NoRepeat a.1 0 all
+  none : (next : ℕ) → a.0 ≡ Ok next → NoRepeat a.1 0 all
 
 module _ (src : List ℕ) (all : ℕ) (x : Flat) (c : Clean all x) (some : 0 < x.wanted) where
   pixel_clean : x.at + 4 ≤ length src → is_repeat src x.at ≡ false → Clean all (ordinary (stored src x))
@@ -112,8 +112,8 @@ module _ (src : List ℕ) (all : ℕ) (x : Flat) (c : Clean all x) (some : 0 < x
             ∙ alone_pixel x.store (x.place - 4) ∙ ap (is_repeat x.store) last ∙ c.none (k - 1) (omega (arith, c.place))));
       }
 
-fault_stored : {all number : ℕ} {s : List ℕ} → Stored all (Fault number, s)
-fault_stored {number = number} = record { none = λ next e. never_both next number (sym e) }
+fault_stored : {all reason : ℕ} {s : List ℕ} → Stored all (Err reason, s)
+fault_stored {reason = reason} = record { none = λ next e. never_both next reason (sym e) }
 
 ones_clean : (reading : Reading) (src : List ℕ) (all : ℕ) (x : Flat) → Clean all x → 0 < x.wanted → Leads (Clean all) (Stored all) ((flat_rule reading).ones src x)
 unfolding crate_flat document_flat document_ones
@@ -125,7 +125,7 @@ ones_clean Document src all x c some =
 
 -- `first` pixels of the row stand in the store already
 pub flat_stored : (reading : Reading) (src : List ℕ) (at : ℕ) (store : List ℕ) (first wanted next : ℕ) → 4 * (first + wanted) ≤ length store → NoRepeat store 0 first
-    → (flat_of (flat_rule reading) src at store (4 * first) wanted).0 ≡ Done next → NoRepeat (flat_of (flat_rule reading) src at store (4 * first) wanted).1 0 (first + wanted)
+    → (flat_of (flat_rule reading) src at store (4 * first) wanted).0 ≡ Ok next → NoRepeat (flat_of (flat_rule reading) src at store (4 * first) wanted).1 0 (first + wanted)
 unfolding flat_of
 flat_stored reading src at store first wanted next room none =
     (run_keeps (flat_turn (flat_rule reading) src) flat_out (Clean all) (Stored all) step (λ x c. fault_stored) _ _ start).none next

@@ -7,8 +7,8 @@ use lib.ListN.{length, get_or, length-append}
 use lib.Seq.{get_or-take, take-append_seam, take-length}
 use Rattle.steps.proofs.Laws.Order.{by_order}
 use Rattle.steps.specs.Place.{bytes_from}
-use Rattle.steps.specs.declared.Taken.{Taken}
-use Rattle.steps.specs.declared.Taken.TheVariants.{Done, Fault}
+use Rattle.steps.specs.Answer.{Taken}
+use Rattle.std.specs.Prelude.{Ok, Err}
 use Rattle.rows_read.specs.Row.{RowRule}
 use Rattle.rows_read.specs.Middle.{Alike, Rests}
 
@@ -42,6 +42,6 @@ NonePast gap rule =
     (src : List ℕ) (n at : ℕ) (store : List ℕ) (width : ℕ) → (Near gap (length src) n at → ⊥) → Rests gap (length src) n (rule src at store width).0 → ⊥
 
 -- an answer that rests on the first n of `long` bytes, where p of them were taken for it
-pub taken_near : (gap long n p : ℕ) (t : Taken) → p ≤ long → ((next : ℕ) → t ≡ Done next → p ≤ next) → Rests gap long n t → p ≤ n
-taken_near gap long n p (Done next) h on firm = omega (arith, on next refl, firm.0)
-taken_near gap long n p (Fault number) h on firm = omega (arith, firm.1)
+pub taken_near : (gap long n p : ℕ) (t : Taken) → p ≤ long → ((next : ℕ) → t ≡ Ok next → p ≤ next) → Rests gap long n t → p ≤ n
+taken_near gap long n p (Ok next) h on firm = omega (arith, on next refl, firm.0)
+taken_near gap long n p (Err reason) h on firm = omega (arith, firm.1)

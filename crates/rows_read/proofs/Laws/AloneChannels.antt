@@ -9,8 +9,8 @@ use lib.ListN.{length, get_or}
 use Rattle.steps.specs.Loop.{Turn, more, halt, run}
 use Rattle.steps.proofs.Laws.Turns.{Leads, run_keeps, enough_turns}
 use Rattle.steps.proofs.Laws.Machines.{more_halt, halted, same_run}
-use Rattle.steps.specs.declared.Taken.{Taken}
-use Rattle.steps.specs.declared.Taken.TheVariants.{Done, Fault}
+use Rattle.steps.specs.Answer.{Taken}
+use Rattle.std.specs.Prelude.{Ok, Err}
 use Rattle.channels_read.specs.Channel.{Chan, chan, Count, span, fault, short, CountRule, channel_turn, channel_out, channel_of, is_run, span_bytes, span_taken, span_of}
 use Rattle.channels_read.specs.Channels.{Chans, chans, after_channel, chans_turn, chans_out, channels_of}
 use Rattle.channels_read.proofs.Laws.Channel.{channel_cases, channel_falls, span_onward, turn_done, turn_fault, turn_span}
@@ -23,7 +23,7 @@ use Rattle.rows_read.proofs.Laws.Alike.{byte_same, bytes_same, Near, near_or, Fi
 -- what a count rests on: so many bytes after it, or a fault that is not that bytes are missing
 abbrev pub CountRests : List ℕ → ℕ → ℕ → Count → Type 0
 CountRests src n at (span k) = at + 1 + span_taken (get_or src at 0) k ≤ n
-CountRests src n at (fault number) = (number ≡ 9 → ⊥) × (length src ≤ n)
+CountRests src n at (fault reason) = (reason ≡ 9 → ⊥) × (length src ≤ n)
 CountRests src n at (short k) = ⊥
 
 pub record CountAlone (gap : ℕ) (rule : CountRule) : Type 0 where
@@ -62,7 +62,7 @@ module _ (gap : ℕ) (small : gap ≤ 1) (rule : CountRule) (src : List ℕ) (n 
       step y p =
           channel_cases rule src channel width y (Leads P Q)
           (λ m d l f near. let on = span_onward src channel (get_or src y.at 0) m y l in p (omega arith, omega arith))
-          (λ number d l f g. p (omega (arith, g.1), omega arith))
+          (λ reason d l f g. p (omega (arith, g.1), omega arith))
           (λ m d l e f. f.0 refl)
           (λ d l f. f.0 refl)
           (λ d f. p f)
@@ -81,7 +81,7 @@ module _ (gap : ℕ) (small : gap ≤ 1) (rule : CountRule) (alone : CountAlone 
   channel_on x t e near =
       channel_cases rule src channel width x (λ (z : Turn Chan (Taken × List ℕ)). z ≡ more t → channel_turn rule other channel width x ≡ more t)
       (λ k d l f g. goes k d l f g)
-      (λ number d l f k. more_halt t _ (sym k))
+      (λ reason d l f k. more_halt t _ (sym k))
       (λ m d l f k. more_halt t _ (sym k))
       (λ d l k. more_halt t _ (sym k))
       (λ d k. more_halt t _ (sym k)) e
@@ -100,10 +100,10 @@ module _ (gap : ℕ) (small : gap ≤ 1) (rule : CountRule) (alone : CountAlone 
   channel_end x a firm e =
       channel_cases rule src channel width x (λ (z : Turn Chan (Taken × List ℕ)). z ≡ halt a → channel_turn rule other channel width x ≡ halt a)
       (λ k d l f g. more_halt _ _ g)
-      (λ number d l f k.
-      let sure : Firm gap (length src) n (Fault number, x.store) = subst (Firm gap (length src) n) (sym (halted k)) firm in
+      (λ reason d l f k.
+      let sure : Firm gap (length src) n (Err reason, x.store) = subst (Firm gap (length src) n) (sym (halted k)) firm in
       let here : x.at < n = omega (arith, sure.1) in
-      turn_fault rule other channel width x number d (omega (arith, alike.1)) (alone.same src other n x.at x.done width alike here (subst (CountRests src n x.at) (sym f) sure) ∙ f) ∙ k)
+      turn_fault rule other channel width x reason d (omega (arith, alike.1)) (alone.same src other n x.at x.done width alike here (subst (CountRests src n x.at) (sym f) sure) ∙ f) ∙ k)
       (λ m d l f k. absurd ((subst (Firm gap (length src) n) (sym (halted k)) firm).0 refl))
       (λ d l k. absurd ((subst (Firm gap (length src) n) (sym (halted k)) firm).0 refl))
       (λ d k. turn_done rule other channel width x d ∙ k) e
@@ -123,7 +123,7 @@ module _ (gap : ℕ) (small : gap ≤ 1) (rule : CountRule) (alone : CountAlone 
 
 -- ---- Four channels
 
-chans_whole : (rule : CountRule) (src : List ℕ) (width : ℕ) (x : Chans) → 4 ≤ x.channel → chans_turn rule src width x ≡ halt (Done x.at, x.store)
+chans_whole : (rule : CountRule) (src : List ℕ) (width : ℕ) (x : Chans) → 4 ≤ x.channel → chans_turn rule src width x ≡ halt (Ok x.at, x.store)
 unfolding chans_turn
 chans_whole rule src width x h = simp (le-ltb x.channel 4 h)
 
@@ -141,7 +141,7 @@ module _ (gap : ℕ) (small : gap ≤ 1) (rule : CountRule) (src : List ℕ) (n 
       read y a p e f = channel_of_past gap small rule src n y.channel width y.at y.store p (subst (Firm gap (length src) n) e f)
 
       step : (y : Chans) → P y → Leads P Q (chans_turn rule src width y)
-      step y p = chans_cases rule src width y (Leads P Q) (λ next s l f. read y (Done next, s) p f) (λ number s l f. read y (Fault number, s) p f) (λ l f. p f)
+      step y p = chans_cases rule src width y (Leads P Q) (λ next s l f. read y (Ok next, s) p f) (λ reason s l f. read y (Err reason, s) p f) (λ l f. p f)
 
   pub channels_past : (at : ℕ) (store : List ℕ) → (Near gap (length src) n at → ⊥) → Firm gap (length src) n (channels_of rule src at store width) → ⊥
   unfolding channels_of
@@ -161,15 +161,15 @@ module _ (gap : ℕ) (small : gap ≤ 1) (rule : CountRule) (alone : CountAlone 
       chans_cases rule src width x (λ (z : Turn Chans (Taken × List ℕ)). z ≡ more t → chans_turn rule other width x ≡ more t)
       (λ next s l f k.
       let u : chans next (x.channel + 1) s ≡ t = cc in
-      chans_by x (Done next) s l (read_same x (Done next, s) f (subst (λ (y : Chans). Near gap (length src) n y.at) (sym u) near)) ∙ k)
-      (λ number s l f k. more_halt t _ (sym k))
+      chans_by x (Ok next) s l (read_same x (Ok next, s) f (subst (λ (y : Chans). Near gap (length src) n y.at) (sym u) near)) ∙ k)
+      (λ reason s l f k. more_halt t _ (sym k))
       (λ l k. more_halt t _ (sym k)) e
 
   chans_end : (x : Chans) (a : Taken × List ℕ) → Firm gap (length src) n a → chans_turn rule src width x ≡ halt a → chans_turn rule other width x ≡ halt a
   chans_end x a firm e =
       chans_cases rule src width x (λ (z : Turn Chans (Taken × List ℕ)). z ≡ halt a → chans_turn rule other width x ≡ halt a)
       (λ next s l f k. more_halt _ _ k)
-      (λ number s l f k. chans_by x (Fault number) s l (read_same x (Fault number, s) f (subst (Firm gap (length src) n) (sym (halted k)) firm)) ∙ k)
+      (λ reason s l f k. chans_by x (Err reason) s l (read_same x (Err reason, s) f (subst (Firm gap (length src) n) (sym (halted k)) firm)) ∙ k)
       (λ l k. chans_whole rule other width x l ∙ k) e
 
   pub channels_alone : (at : ℕ) (store : List ℕ) → Firm gap (length src) n (channels_of rule src at store width) → channels_of rule other at store width ≡ channels_of rule src at store width

@@ -10,8 +10,8 @@ use lib.ListN.{length}
 use Rattle.steps.specs.Loop.{Turn, more, halt, run, lead}
 use Rattle.steps.proofs.Laws.Turns.{Leads, Falls, run_keeps, enough_turns}
 use Rattle.steps.proofs.Laws.Machines.{same_run}
-use Rattle.steps.specs.declared.Taken.{Taken}
-use Rattle.steps.specs.declared.Taken.TheVariants.{Done}
+use Rattle.steps.specs.Answer.{Taken}
+use Rattle.std.specs.Prelude.{Ok}
 use Rattle.flat_read.specs.Flat.{Flat, FlatRule, flat, four_to, is_repeat, flat_turn, flat_out, flat_of}
 use Rattle.flat_read.proofs.Laws.Flat.{flat_cases, flat_falls, OnesOnward}
 use Rattle.rows_read.specs.Middle.{Alike}
@@ -19,7 +19,7 @@ use Rattle.rows_read.proofs.Laws.Alike.{byte_same, bytes_same, Near, near_or, Fi
 
 -- a turn that has taken a pixel: what comes after it lies behind it
 abbrev pub TakesFour : Flat → Turn Flat (Taken × List ℕ) → Type 0
-TakesFour x z = Leads (λ (y : Flat). x.at + 4 ≤ y.at) (λ (a : Taken × List ℕ). (next : ℕ) → a.0 ≡ Done next → x.at + 4 ≤ next) z
+TakesFour x z = Leads (λ (y : Flat). x.at + 4 ≤ y.at) (λ (a : Taken × List ℕ). (next : ℕ) → a.0 ≡ Ok next → x.at + 4 ≤ next) z
 
 pub record FlatAlone (rule : FlatRule) : Type 0 where
   pub onward : (src : List ℕ) (x : Flat) → x.at + 4 ≤ length src → TakesFour x (rule.ones src x)

@@ -12,8 +12,9 @@ use Rattle.steps.specs.Loop.{pick, Turn, more, halt}
 use Rattle.steps.specs.Place.{bytes_from}
 use Rattle.steps.proofs.Laws.Turns.{enough_turns}
 use Rattle.steps.proofs.Laws.Machines.{told, told_pick, told_run}
-use Rattle.steps.specs.declared.Taken.{Taken}
-use Rattle.steps.specs.declared.Taken.TheVariants.{Done, Fault}
+use Rattle.steps.specs.Answer.{Taken}
+use Rattle.std.specs.Prelude.{Ok, Err}
+use Rattle.steps.specs.declared.refusal.Reason.TheVariants.{BrokenRow, BytesEnd}
 use Rattle.steps.specs.declared.Reading.{Reading}
 use Rattle.steps.specs.declared.Reading.TheVariants.{Crate, Document}
 use Rattle.channels_read.specs.Channel.{Chan, chan, CountRule, short, behind, crate_count, document_count, count_rule, channel_turn, channel_out, channel_of, span_bytes, span_of}
@@ -91,9 +92,9 @@ module _ (rule : CountRule) (before : CountBefore rule) (pre src : List ℕ) whe
       let size = length-append pre src in
       channel_cases rule src channel width x (λ (z : Turn Chan (Taken × List ℕ)). channel_turn rule (pre ++ src) channel width y ≡ told (chan_later (length pre)) (later_by (length pre)) z)
       (λ m d l e. turn_span rule (pre ++ src) channel width y m d (omega arith) (same ∙ e) ∙ rw (byte_later pre src x.at) (ap more (span_later pre src channel (get_or src x.at 0) m x)))
-      (λ number d l e. turn_fault rule (pre ++ src) channel width y number d (omega arith) (same ∙ e))
+      (λ reason d l e. turn_fault rule (pre ++ src) channel width y reason d (omega arith) (same ∙ e))
       (λ m d l e. turn_count rule (pre ++ src) channel width y (short m) d (omega arith) (same ∙ e)
-      ∙ rw (byte_later pre src x.at) (ap (λ (z : Chan). halt (Fault 9, z.store)) (span_later pre src channel (get_or src x.at 0) m x)))
+      ∙ rw (byte_later pre src x.at) (ap (λ (z : Chan). halt (Err BytesEnd, z.store)) (span_later pre src channel (get_or src x.at 0) m x)))
       (λ d l. turn_short rule (pre ++ src) channel width y d (omega arith))
       (λ d. turn_done rule (pre ++ src) channel width y d)
 
@@ -115,8 +116,8 @@ module _ (rule : CountRule) (before : CountBefore rule) (pre src : List ℕ) whe
       (sym (told_pick chans_later (later_by (length pre)) (ltb x.channel 4) _ _))
     where
       after : (t : Taken) (s : List ℕ) → after_channel x.channel (later (length pre) t) s ≡ told chans_later (later_by (length pre)) (after_channel x.channel t s)
-      after (Done next) s = refl
-      after (Fault number) s = refl
+      after (Ok next) s = refl
+      after (Err reason) s = refl
 
   pub channels_before : (at : ℕ) (store : List ℕ) (width : ℕ) → channels_of rule (pre ++ src) (length pre + at) store width ≡ later_by (length pre) (channels_of rule src at store width)
   unfolding channels_of
@@ -158,7 +159,7 @@ module _ (rule : FlatRule) (on : OnesOnward rule) (before : FlatBefore rule) (pr
       let next : length pre + x.at + 4 ≡ length pre + (x.at + 4) = omega arith in
       rw (next, past_end pre src (x.at + 4), repeat_later pre src x.at, before.missing pre src x, before.ones pre src x, four_later pre src x.at x.store x.place)
       (told_picks (flat_later (length pre)) (later_by (length pre)) (ltb 0 x.wanted) (ltb (length src) (x.at + 4)) (is_repeat src x.at)
-      (halt (Fault 9, rule.missing src x)) (rule.ones src x) (more (ordinary (stored src x))) (halt (Done x.at, x.store)))
+      (halt (Err BytesEnd, rule.missing src x)) (rule.ones src x) (more (ordinary (stored src x))) (halt (Ok x.at, x.store)))
 
   pub flat_before : (at : ℕ) (store : List ℕ) (start wanted : ℕ) → flat_of rule (pre ++ src) (length pre + at) store start wanted ≡ later_by (length pre) (flat_of rule src at store start wanted)
   unfolding flat_of
@@ -207,7 +208,7 @@ row_before parts before pre src at store width = go (is_flat_width width) refl
     by_kind (kind.Pixel next) s = before.flat pre src next s 4 (width - 1)
     by_kind (kind.Channels next) s = rw (before.mark pre src at width, before.channels pre src next s width) (either (parts.mark src at width))
       where
-        either : (b : Bool) → pick b (later_by (length pre) (parts.channels src next s width)) (Fault 14, s) ≡ later_by (length pre) (pick b (parts.channels src next s width) (Fault 14, s))
+        either : (b : Bool) → pick b (later_by (length pre) (parts.channels src next s width)) (Err BrokenRow, s) ≡ later_by (length pre) (pick b (parts.channels src next s width) (Err BrokenRow, s))
         either true = refl
         either false = refl
 
@@ -232,7 +233,7 @@ ones_before pre src x =
     rw (add_assoc, byte_later pre src (x.at + 3), next) (either (ltb x.place 4) (ltb x.wanted (times_of src x)))
   where
     Stop : Turn Flat (Taken × List ℕ)
-    Stop = halt (Fault 14, x.store)
+    Stop = halt (Err BrokenRow, x.store)
 
     On : Turn Flat (Taken × List ℕ)
     On = more (repeated x (times_of src x))

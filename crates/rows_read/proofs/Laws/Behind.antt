@@ -8,8 +8,8 @@ use borrow.Author.Tests.{le-ltb}
 use lib.Dec.{ltb}
 use lib.ListN.{length, get_or}
 use Rattle.steps.proofs.Laws.Order.{by_order}
-use Rattle.steps.specs.declared.Taken.{Taken}
-use Rattle.steps.specs.declared.Taken.TheVariants.{Done, Fault}
+use Rattle.steps.specs.Answer.{Taken}
+use Rattle.std.specs.Prelude.{Ok, Err}
 use Rattle.steps.proofs.Laws.Taken.{never_both}
 use Rattle.steps.specs.declared.Reading.{Reading}
 use Rattle.steps.specs.declared.Reading.TheVariants.{Crate, Document}
@@ -132,8 +132,8 @@ pub alone_behind : (gap : ℕ) → gap ≤ 1 → (rule : RowRule) → Alone gap 
 alone_behind gap small rule alone src rest at store width settled = alone src (src ++ rest) (length src) at store width (front_alike src rest) (rests (rule src at store width).0 settled)
   where
     rests : (t : Taken) → Settled (length src) t → Rests gap (length src) (length src) t
-    rests (Done next) h = (omega arith, omega arith)
-    rests (Fault number) h = (h, omega arith)
+    rests (Ok next) h = (omega arith, omega arith)
+    rests (Err reason) h = (h, omega arith)
 
 -- ---- Either reading
 
@@ -276,7 +276,7 @@ pub reading_behind : (reading : Reading) → Behind (row_of reading)
 reading_behind reading = alone_behind (gap_of reading) (gap_small reading) (row_of reading) (reading_alone reading)
 
 -- by the document reading all bytes of a row that is done were there, and there are four at least
-pub document_first : (src : List ℕ) (at : ℕ) (store : List ℕ) (width next : ℕ) → 0 < width → next ≤ length src → (row_of Document src at store width).0 ≡ Done next → at + 4 ≤ next
+pub document_first : (src : List ℕ) (at : ℕ) (store : List ℕ) (width next : ℕ) → 0 < width → next ≤ length src → (row_of Document src at store width).0 ≡ Ok next → at + 4 ≤ next
 unfolding row_of
 document_first src at store width next w inside e =
     row_first 0 (parts_of Document) (parts_alone Document) src next at store width w (subst (Rests 0 (length src) next) (sym e) (omega arith, omega arith))

@@ -14,8 +14,8 @@ use Rattle.steps.specs.Place.{bytes_from}
 use Rattle.steps.proofs.Laws.Place.{length_bytes}
 use Rattle.steps.proofs.Laws.Turns.{by_test, Leads, run_keeps}
 use Rattle.steps.proofs.Laws.Taken.{never_both}
-use Rattle.steps.specs.declared.Taken.{Taken}
-use Rattle.steps.specs.declared.Taken.TheVariants.{Done, Fault}
+use Rattle.steps.specs.Answer.{Taken}
+use Rattle.std.specs.Prelude.{Ok, Err}
 use Rattle.steps.specs.declared.Reading.{Reading}
 use Rattle.steps.specs.declared.Reading.TheVariants.{Crate, Document}
 use Rattle.channels_read.specs.Channel.{Chan, CountRule, count_rule, channel_of, channel_out, channel_turn, is_run, span_bytes, span_of}
@@ -40,7 +40,7 @@ pub record On (src : List ℕ) (limit at : ℕ) (store : List ℕ) (p : ℕ) (s 
 -- the same of an answer
 pub record Sound (src : List ℕ) (limit at : ℕ) (store : List ℕ) (a : Taken × List ℕ) : Type 0 where
   pub kept : Kept limit store a.1
-  pub onward : (next : ℕ) → a.0 ≡ Done next → at ≤ length src → (at ≤ next) × (next ≤ length src)
+  pub onward : (next : ℕ) → a.0 ≡ Ok next → at ≤ length src → (at ≤ next) × (next ≤ length src)
 
 module _ {src : List ℕ} {limit at : ℕ} {store : List ℕ} where
   pub on_start : On src limit at store at store
@@ -49,13 +49,13 @@ module _ {src : List ℕ} {limit at : ℕ} {store : List ℕ} where
   pub on_to : {p q : ℕ} {s s' : List ℕ} → On src limit at store p s → Kept limit s s' → p ≤ q → q ≤ length src → On src limit at store q s'
   on_to o k h l = record { kept = kept_then o.kept k; onward = λ a. omega (arith, o.onward a) }
 
-  pub sound_done : {p : ℕ} {s : List ℕ} → On src limit at store p s → Sound src limit at store (Done p, s)
+  pub sound_done : {p : ℕ} {s : List ℕ} → On src limit at store p s → Sound src limit at store (Ok p, s)
   sound_done {p} o = record { kept = o.kept; onward = λ next e h. let f : p ≡ next = cc in omega (arith, o.onward h) }
 
-  pub sound_fault : {number : ℕ} {s : List ℕ} → Kept limit store s → Sound src limit at store (Fault number, s)
-  sound_fault {number} k = record { kept = k; onward = λ next e h. never_both next number (sym e) }
+  pub sound_fault : {reason : ℕ} {s : List ℕ} → Kept limit store s → Sound src limit at store (Err reason, s)
+  sound_fault {reason} k = record { kept = k; onward = λ next e h. never_both next reason (sym e) }
 
-  pub sound_on : {p : ℕ} {s : List ℕ} → Sound src limit at store (Done p, s) → On src limit at store p s
+  pub sound_on : {p : ℕ} {s : List ℕ} → Sound src limit at store (Ok p, s) → On src limit at store p s
   sound_on {p} r = record { kept = r.kept; onward = λ h. r.onward p refl h }
 
   pub sound_then : {p : ℕ} {s : List ℕ} {a : Taken × List ℕ} → On src limit at store p s → Sound src limit p s a → Sound src limit at store a
@@ -93,7 +93,7 @@ module _ (rule : CountRule) (inside : StaysInside rule) (src : List ℕ) where
           let i = subst (PutsInside x.done width) e (inside src x.at x.done width d) in
           let o = span_onward src channel c n x l in
           (on_to p.0 (span_kept src channel width c n x h i) (omega arith) o.1, omega (arith, i, span_done src channel c n x)))
-          (λ number d l e. sound_fault p.0.kept)
+          (λ reason d l e. sound_fault p.0.kept)
           (λ n d l e. let i = subst (PutsInside x.done width) e (inside src x.at x.done width d) in
           sound_fault (kept_then p.0.kept (span_kept src channel width (get_or src x.at 0) n x h i)))
           (λ d l. sound_fault p.0.kept)
@@ -116,8 +116,8 @@ module _ (rule : CountRule) (inside : StaysInside rule) (src : List ℕ) where
       step : (x : Chans) → P x → Leads P Q (chans_turn rule src width x)
       step x p =
           chans_cases rule src width x (Leads P Q)
-          (λ next s h e. sound_on (read x (Done next, s) p h e))
-          (λ number s h e. read x (Fault number, s) p h e)
+          (λ next s h e. sound_on (read x (Ok next, s) p h e))
+          (λ reason s h e. read x (Err reason, s) p h e)
           (λ h. sound_done p)
 
 -- ---- A flat part, by a rule that keeps to the room that is wanted
@@ -181,7 +181,7 @@ module _ (rule : RowRule) (sound : SoundRow rule) (src : List ℕ) (at : ℕ) (s
   row_length = (sound src at store width).kept.long
 
   -- the next place is not before the row, and not past the end
-  pub row_onward : (next : ℕ) → (rule src at store width).0 ≡ Done next → at ≤ length src → (at ≤ next) × (next ≤ length src)
+  pub row_onward : (next : ℕ) → (rule src at store width).0 ≡ Ok next → at ≤ length src → (at ≤ next) × (next ≤ length src)
   row_onward = (sound src at store width).onward
 
 -- ---- Either reading

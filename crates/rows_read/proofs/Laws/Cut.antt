@@ -11,8 +11,8 @@ use lib.ListN.{length, get_or, set, drop, replicate, length-drop, drop_of_length
 use lib.Seq.{drop-cons, get_or-set_same, get_or-set_other, set_out}
 use Rattle.steps.proofs.Laws.Order.{by_order}
 use Rattle.steps.specs.Place.{bytes_from, spread}
-use Rattle.steps.specs.declared.Taken.{Taken}
-use Rattle.steps.specs.declared.Taken.TheVariants.{Done}
+use Rattle.steps.specs.Answer.{Taken}
+use Rattle.std.specs.Prelude.{Ok}
 use Rattle.steps.proofs.Laws.Loop.{Runs, runs_more, runs_halt}
 use Rattle.steps.proofs.Laws.Place.{spread_append}
 use Rattle.steps.proofs.Laws.Turns.{Falls}
@@ -85,7 +85,7 @@ module _ (src : List ℕ) (channel width : ℕ) (a : Taken × List ℕ) where
   follow (suc n) x y s r =
       follow n s.0 y s.2 (runs_more r s.1 (subst (Falls (λ (z : Chan). length src - z.at) x) s.1 (channel_falls crate_count src channel width x)))
 
-  ends : (x : Chan) → CutAt src width x → Going x → a ≡ (Done (length src), spread 4 x.store (channel + 4 * x.done) (filled src width x))
+  ends : (x : Chan) → CutAt src width x → Going x → a ≡ (Ok (length src), spread 4 x.store (channel + 4 * x.done) (filled src width x))
   ends x cut r =
       let c : ℕ = get_or src x.at 0 in
       let left : ℕ = width - x.done in
@@ -97,7 +97,7 @@ module _ (src : List ℕ) (channel width : ℕ) (a : Taken × List ℕ) where
 
 -- "the bytes that it still asks for are read as 0, the channel is done, and the place after it is the end of the bytes"
 pub cut_channel : (src : List ℕ) (at : ℕ) (store : List ℕ) (channel width n : ℕ) (x : Chan) → After src channel width n (chan at 0 store) x → CutAt src width x
-    → channel_of crate_count src at store channel width ≡ (Done (length src), spread 4 x.store (channel + 4 * x.done) (filled src width x))
+    → channel_of crate_count src at store channel width ≡ (Ok (length src), spread 4 x.store (channel + 4 * x.done) (filled src width x))
 cut_channel src at store channel width n x after cut =
     let a = channel_of crate_count src at store channel width in
     ends src channel width a x cut (follow src channel width a n (chan at 0 store) x after (channel_starts crate_count src at store channel width))
@@ -109,7 +109,7 @@ module _ (src : List ℕ) (at : ℕ) (store : List ℕ) (width : ℕ) (c : CutRo
   abbrev pub cut_store : List ℕ
   cut_store = spread 4 c.end.store (3 + 4 * c.end.done) (filled src width c.end)
 
-  channels_cut : (Done (length src), cut_store) ≡ channels_of crate_count src (at + 4) (crate_start src at store) width
+  channels_cut : (Ok (length src), cut_store) ≡ channels_of crate_count src (at + 4) (crate_start src at store) width
   channels_cut =
       sym (together crate_count src (at + 4) (crate_start src at store) width (length src) cut_store (record {
         green = c.green;
@@ -125,10 +125,10 @@ module _ (src : List ℕ) (at : ℕ) (store : List ℕ) (width : ℕ) (c : CutRo
       }))
 
   -- the row is done, and the place after it is the end of the bytes
-  pub cut_row : crate_row src at store width ≡ (Done (length src), cut_store)
+  pub cut_row : crate_row src at store width ≡ (Ok (length src), cut_store)
   cut_row =
-      sym (row_marked Crate src at store width false (sym c.coded) refl _ (crate_start src at store) (sym c.mark) refl (Done (length src), cut_store) (at + 4) refl
-      (marked_right Crate src at (at + 4) (crate_start src at store) width true refl (Done (length src), cut_store) refl channels_cut))
+      sym (row_marked Crate src at store width false (sym c.coded) refl _ (crate_start src at store) (sym c.mark) refl (Ok (length src), cut_store) (at + 4) refl
+      (marked_right Crate src at (at + 4) (crate_start src at store) width true refl (Ok (length src), cut_store) refl channels_cut))
 
 -- at most 128 bytes are missing, since a count is a byte
 pub cut_most : (src : List ℕ) (width : ℕ) (x : Chan) → CutAt src width x → get_or src x.at 0 < 256 → width - x.done - behind src x ≤ 128

@@ -8,8 +8,9 @@ use mathlib.Core.Path.{◌≡◌, refl, sym, subst}
 use lib.Dec.{ltb}
 use lib.ListN.{length, get_or}
 use Rattle.steps.specs.Loop.{Turn}
-use Rattle.steps.specs.declared.Taken.{Taken}
-use Rattle.steps.specs.declared.Taken.TheVariants.{Done, Fault}
+use Rattle.steps.specs.Answer.{Taken}
+use Rattle.std.specs.Prelude.{Ok, Err}
+use Rattle.steps.specs.declared.refusal.Reason.{Reason}
 use Rattle.steps.proofs.Laws.Turns.{by_test, Leads, run_keeps}
 use Rattle.steps.specs.declared.Reading.{Reading}
 use Rattle.steps.specs.declared.Reading.TheVariants.{Crate, Document}
@@ -25,13 +26,13 @@ use Rattle.rows_read.proofs.Laws.Row.{kind_cases}
 
 -- no fault, or one of those
 abbrev By : (ℕ → Type 0) → Taken × List ℕ → Type 0
-By N (Done next, store) = Unit {0}
-By N (Fault number, store) = N number
+By N (Ok next, store) = Unit {0}
+By N (Err reason, store) = N reason
 
 -- what a rule may say of a count
 abbrev pub Counts : (ℕ → Type 0) → Count → Type 0
 Counts N (span n) = Unit {0}
-Counts N (fault number) = N number
+Counts N (fault reason) = N reason
 Counts N (short n) = Unit {0}
 
 module _ (N : ℕ → Type 0) (nine : N 9) where
@@ -46,14 +47,14 @@ module _ (N : ℕ → Type 0) (nine : N 9) where
     unfolding channel_of
     channel_faults src at store channel width =
         run_keeps (channel_turn rule src channel width) channel_out (λ x. Unit {0}) (By N)
-        (λ x u. channel_cases rule src channel width x Ends (λ n d l e. tt) (λ number d l e. subst (Counts N) e (counts src x.at x.done width)) (λ n d l e. nine) (λ d l. nine) (λ d. tt))
+        (λ x u. channel_cases rule src channel width x Ends (λ n d l e. tt) (λ reason d l e. subst (Counts N) e (counts src x.at x.done width)) (λ n d l e. nine) (λ d l. nine) (λ d. tt))
         (λ x u. nine) (length src + 1) (chan at 0 store) tt
 
     channels_faults : (src : List ℕ) (at : ℕ) (store : List ℕ) (width : ℕ) → By N (channels_of rule src at store width)
     unfolding channels_of
     channels_faults src at store width =
         run_keeps (chans_turn rule src width) chans_out (λ x. Unit {0}) (By N)
-        (λ x u. chans_cases rule src width x Ends (λ next s h e. tt) (λ number s h e. subst (By N) (sym e) (channel_faults src x.at x.store x.channel width)) (λ h. tt))
+        (λ x u. chans_cases rule src width x Ends (λ next s h e. tt) (λ reason s h e. subst (By N) (sym e) (channel_faults src x.at x.store x.channel width)) (λ h. tt))
         (λ x u. nine) 5 (chans at 0 store) tt
 
   flat_faults : (rule : FlatRule) → ((src : List ℕ) (x : Flat) → Ends (rule.ones src x)) → (src : List ℕ) (at : ℕ) (store : List ℕ) (start wanted : ℕ) → By N (flat_of rule src at store start wanted)
@@ -105,5 +106,5 @@ reading_by reading =
     row_faults (RowFault reading) (inl refl) (parts_of reading) (flat_faults (RowFault reading) (inl refl) (flat_rule reading) (ones_faults reading))
     (channels_faults (RowFault reading) (inl refl) (count_rule reading) (count_faults reading)) (mark_faults reading)
 
-pub reading_faults : (reading : Reading) (src : List ℕ) (at : ℕ) (store : List ℕ) (width number : ℕ) (store' : List ℕ) → (Fault number, store') ≡ row_of reading src at store width → RowFault reading number
-reading_faults reading src at store width number store' e = subst (By (RowFault reading)) (sym e) (reading_by reading src at store width)
+pub reading_faults : (reading : Reading) (src : List ℕ) (at : ℕ) (store : List ℕ) (width : ℕ) (reason : Reason) (store' : List ℕ) → (Err reason, store') ≡ row_of reading src at store width → RowFault reading reason
+reading_faults reading src at store width reason store' e = subst (By (RowFault reading)) (sym e) (reading_by reading src at store width)

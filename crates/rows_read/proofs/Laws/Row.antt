@@ -15,8 +15,9 @@ use Rattle.steps.specs.Place.{bytes_from, spread}
 use Rattle.steps.proofs.Laws.Turns.{by_test}
 use Rattle.channels_read.specs.Channel.{count_rule}
 use Rattle.flat_read.specs.Flat.{flat_rule, flat_of}
-use Rattle.steps.specs.declared.Taken.{Taken}
-use Rattle.steps.specs.declared.Taken.TheVariants.{Fault}
+use Rattle.steps.specs.Answer.{Taken}
+use Rattle.std.specs.Prelude.{Err}
+use Rattle.steps.specs.declared.refusal.Reason.TheVariants.{BrokenRow, BytesEnd}
 use Rattle.steps.specs.declared.Reading.{Reading}
 use Rattle.steps.specs.declared.Reading.TheVariants.{Crate, Document}
 use Rattle.rows_read.specs.declared.kind.Kind.{Kind}
@@ -233,7 +234,7 @@ module _ (reading : Reading) (src : List ℕ) (at next : ℕ) (store : List ℕ)
   unfolding parts_of
   marked_right a t e = e ∙ simp (sym eb ∙ t)
 
-  pub marked_wrong : b ≡ false → (Fault 14, store) ≡ rest_by (parts_of reading) src at width (Channels next) store
+  pub marked_wrong : b ≡ false → (Err BrokenRow, store) ≡ rest_by (parts_of reading) src at width (Channels next) store
   unfolding parts_of
   marked_wrong t = simp (sym eb ∙ t)
 
@@ -248,7 +249,7 @@ module _ (reading : Reading) (src : List ℕ) (at : ℕ) (store : List ℕ) (wid
     unfolding row_of parts_of
     reading_kind = by_kind (parts_of reading) src at store width b eb k store' t ek es
 
-    pub row_missing : k ≡ Missing → (Fault 9, store') ≡ row_of reading src at store width
+    pub row_missing : k ≡ Missing → (Err BytesEnd, store') ≡ row_of reading src at store width
     row_missing e = rw e at reading_kind
 
     pub row_flat : (a : Taken × List ℕ) → k ≡ Flat → a ≡ flat_of (flat_rule reading) src at store' 0 width → a ≡ row_of reading src at store width

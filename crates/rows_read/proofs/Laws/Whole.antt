@@ -11,8 +11,8 @@ use Rattle.steps.proofs.Laws.Order.{by_order}
 use Rattle.steps.specs.Loop.{Turn, more, run, lead}
 use Rattle.steps.proofs.Laws.Machines.{same_run}
 use Rattle.steps.proofs.Laws.Taken.{fault_done}
-use Rattle.steps.specs.declared.Taken.{Taken}
-use Rattle.steps.specs.declared.Taken.TheVariants.{Done}
+use Rattle.steps.specs.Answer.{Taken}
+use Rattle.std.specs.Prelude.{Ok}
 use Rattle.steps.specs.declared.Reading.TheVariants.{Crate}
 use Rattle.channels_read.specs.Channel.{Chan, chan, span, crate_count, channel_turn, channel_out, channel_of, span_length, span_taken, span_of}
 use Rattle.channels_read.proofs.Laws.Channel.{channel_cases, taken_run, taken_literals, turn_done, turn_short, turn_span}
@@ -34,7 +34,7 @@ use Rattle.rows_read.proofs.Laws.Bounds.{row_onward, reading_sound}
 
 module _ (src : List ℕ) (channel width : ℕ) where
   -- at the end of the bytes it is done already
-  at_end : (k : ℕ) (x : Chan) (next : ℕ) (s : List ℕ) → run (channel_turn crate_count src channel width) channel_out k x ≡ (Done next, s) → length src ≤ x.at → width ≤ x.done
+  at_end : (k : ℕ) (x : Chan) (next : ℕ) (s : List ℕ) → run (channel_turn crate_count src channel width) channel_out k x ≡ (Ok next, s) → length src ≤ x.at → width ≤ x.done
   unfolding run
   at_end zero x next s e h = fault_done 9 next _ s e
   at_end (suc k) x next s e h =
@@ -73,12 +73,12 @@ module _ (src : List ℕ) (channel width : ℕ) where
       ∙ rw here (ap more (span_same src other (length src) alike channel (get_or src x.at 0) m x h))
 
   -- a channel that is done: cut so, or the same whatever follows
-  channel_or : (k : ℕ) (x : Chan) (next : ℕ) (s : List ℕ) → run (channel_turn crate_count src channel width) channel_out k x ≡ (Done next, s)
-      → Cut x ⊎ ((other : List ℕ) → Alike (length src) src other → run (channel_turn crate_count other channel width) channel_out k x ≡ (Done next, s))
+  channel_or : (k : ℕ) (x : Chan) (next : ℕ) (s : List ℕ) → run (channel_turn crate_count src channel width) channel_out k x ≡ (Ok next, s)
+      → Cut x ⊎ ((other : List ℕ) → Alike (length src) src other → run (channel_turn crate_count other channel width) channel_out k x ≡ (Ok next, s))
   unfolding run span_of
   channel_or zero x next s e = fault_done 9 next _ s e
   channel_or (suc k) x next s e =
-      channel_cases crate_count src channel width x (λ (z : Turn Chan (Taken × List ℕ)). channel_turn crate_count src channel width x ≡ z → lead (run (channel_turn crate_count src channel width) channel_out k) z ≡ (Done next, s) → Or)
+      channel_cases crate_count src channel width x (λ (z : Turn Chan (Taken × List ℕ)). channel_turn crate_count src channel width x ≡ z → lead (run (channel_turn crate_count src channel width) channel_out k) z ≡ (Ok next, s) → Or)
       (λ m d l f et r. spans m d l f et r (channel_or k _ next s r))
       (λ number d l f et r. fault_done number next _ s r)
       (λ m d l f et r. fault_done 9 next _ s r)
@@ -87,12 +87,12 @@ module _ (src : List ℕ) (channel width : ℕ) where
       refl e
     where
       Or : Type 0
-      Or = Cut x ⊎ ((other : List ℕ) → Alike (length src) src other → lead (run (channel_turn crate_count other channel width) channel_out k) (channel_turn crate_count other channel width x) ≡ (Done next, s))
+      Or = Cut x ⊎ ((other : List ℕ) → Alike (length src) src other → lead (run (channel_turn crate_count other channel width) channel_out k) (channel_turn crate_count other channel width x) ≡ (Ok next, s))
 
       spans : (m : ℕ) → x.done < width → x.at < length src → crate_count src x.at x.done width ≡ span m
           → channel_turn crate_count src channel width x ≡ more (span_of src channel (get_or src x.at 0) m x)
-          → run (channel_turn crate_count src channel width) channel_out k (span_of src channel (get_or src x.at 0) m x) ≡ (Done next, s)
-          → Cut (span_of src channel (get_or src x.at 0) m x) ⊎ ((other : List ℕ) → Alike (length src) src other → run (channel_turn crate_count other channel width) channel_out k (span_of src channel (get_or src x.at 0) m x) ≡ (Done next, s))
+          → run (channel_turn crate_count src channel width) channel_out k (span_of src channel (get_or src x.at 0) m x) ≡ (Ok next, s)
+          → Cut (span_of src channel (get_or src x.at 0) m x) ⊎ ((other : List ℕ) → Alike (length src) src other → run (channel_turn crate_count other channel width) channel_out k (span_of src channel (get_or src x.at 0) m x) ≡ (Ok next, s))
           → Or
       spans m d l f et r (inl (n, y, after, cut, short)) = inl (suc n, y, (_, et, after), cut, short)
       spans m d l f et r (inr same) =
@@ -102,17 +102,17 @@ module _ (src : List ℕ) (channel width : ℕ) where
           (λ h. inr (λ other alike. ap (lead (run (channel_turn crate_count other channel width) channel_out k)) (turn_same other alike x m d l f h) ∙ same other alike))
 
 -- the same of the channel from its start on
-module _ (src : List ℕ) (at : ℕ) (store : List ℕ) (channel width next : ℕ) (s : List ℕ) (e : channel_of crate_count src at store channel width ≡ (Done next, s)) where
+module _ (src : List ℕ) (at : ℕ) (store : List ℕ) (channel width next : ℕ) (s : List ℕ) (e : channel_of crate_count src at store channel width ≡ (Ok next, s)) where
   some_left : 0 < width → at < length src
   unfolding channel_of
   some_left w = by_order at (length src) (λ l. l) (λ l. let none = at_end src channel width (length src + 1) (chan at 0 store) next s e l in absurd (omega arith))
 
-  channel_or_cut : Cut src channel width (chan at 0 store) ⊎ ((other : List ℕ) → Alike (length src) src other → channel_of crate_count other at store channel width ≡ (Done next, s))
+  channel_or_cut : Cut src channel width (chan at 0 store) ⊎ ((other : List ℕ) → Alike (length src) src other → channel_of crate_count other at store channel width ≡ (Ok next, s))
   unfolding channel_of
   channel_or_cut =
       ⊎_elim inl
       (λ same. inr (λ other alike.
-      same_run (channel_turn crate_count other channel width) (channel_turn crate_count other channel width) channel_out channel_out (Done next, s) (λ (x : Chan). Unit {0})
+      same_run (channel_turn crate_count other channel width) (channel_turn crate_count other channel width) channel_out channel_out (Ok next, s) (λ (x : Chan). Unit {0})
       (λ x k. fault_done 9 next _ s k) (λ k x r. tt) (λ x t k b. k) (λ x k. k) _ _ _ (omega (arith, alike.1)) (same other alike)))
       (channel_or src channel width (length src + 1) (chan at 0 store) next s e)
 
@@ -120,7 +120,7 @@ module _ (src : List ℕ) (at : ℕ) (store : List ℕ) (channel width next : �
 
 module _ (src : List ℕ) (at : ℕ) (store : List ℕ) (width next : ℕ) (s : List ℕ) where
   -- with a fourth channel that is the same whatever follows, so are the four
-  four_same : 0 < width → (f : Four crate_count src at store width next s) → (other : List ℕ) → Alike (length src) src other → channel_of crate_count other f.exponent f.blues 3 width ≡ (Done next, s)
+  four_same : 0 < width → (f : Four crate_count src at store width next s) → (other : List ℕ) → Alike (length src) src other → channel_of crate_count other f.exponent f.blues 3 width ≡ (Ok next, s)
       → Four crate_count other at store width next s
   four_same some f other alike fourth =
       let in_g = some_left src f.green f.reds 1 width _ _ f.second some in
@@ -139,7 +139,7 @@ module _ (src : List ℕ) (at : ℕ) (store : List ℕ) (width next : ℕ) (s : 
         fourth = fourth;
       }
     where
-      before : (c p : ℕ) (store : List ℕ) (n : ℕ) (after : List ℕ) → channel_of crate_count src p store c width ≡ (Done n, after) → n < length src → channel_of crate_count other p store c width ≡ (Done n, after)
+      before : (c p : ℕ) (store : List ℕ) (n : ℕ) (after : List ℕ) → channel_of crate_count src p store c width ≡ (Ok n, after) → n < length src → channel_of crate_count other p store c width ≡ (Ok n, after)
       before c p store n after e h =
           channel_alone 1 (omega arith) crate_count crate_count_alone src other (length src) alike c width p store (subst (λ (z : Taken × List ℕ). Rests 1 (length src) (length src) z.0) (sym e) (omega arith, omega arith)) ∙ e
 
@@ -151,17 +151,17 @@ Full src at store width a = (other : List ℕ) → Alike (length src) src other 
 
 module _ (src : List ℕ) (at : ℕ) (store : List ℕ) (width next : ℕ) (s : List ℕ) (inside : next ≤ length src) where
   -- a flat part never takes a byte that is missing
-  flat_full : (p : ℕ) (store : List ℕ) (start wanted : ℕ) → flat_of crate_flat src p store start wanted ≡ (Done next, s) → (other : List ℕ) → Alike (length src) src other
-      → flat_of crate_flat other p store start wanted ≡ (Done next, s)
+  flat_full : (p : ℕ) (store : List ℕ) (start wanted : ℕ) → flat_of crate_flat src p store start wanted ≡ (Ok next, s) → (other : List ℕ) → Alike (length src) src other
+      → flat_of crate_flat other p store start wanted ≡ (Ok next, s)
   flat_full p store start wanted e other alike =
       flat_alone 0 (omega arith) crate_flat crate_flat_alone src other (length src) alike p store start wanted (subst (λ (z : Taken × List ℕ). Rests 0 (length src) (length src) z.0) (sym e) (omega arith, omega arith)) ∙ e
 
   module _ (coded : is_flat_width width ≡ false) where
     abbrev Or : Type 0
-    Or = ((c : CutRow src at store width) × Short src width c.end) ⊎ Full src at store width (Done next, s)
+    Or = ((c : CutRow src at store width) × Short src width c.end) ⊎ Full src at store width (Ok next, s)
 
     -- what stands before the rest of the row is all there
-    by_start : (k : Kind) → kind_of src at ≡ k → KindRests (length src) at k → ((other : List ℕ) → Alike (length src) src other → rest_by (parts_of Crate) other at width k (crate_start src at store) ≡ (Done next, s)) → Full src at store width (Done next, s)
+    by_start : (k : Kind) → kind_of src at ≡ k → KindRests (length src) at k → ((other : List ℕ) → Alike (length src) src other → rest_by (parts_of Crate) other at width k (crate_start src at store) ≡ (Ok next, s)) → Full src at store width (Ok next, s)
     unfolding row_of row_by parts_of
     by_start k ek rests same other alike =
         let there : KindRests (length src) at (kind_of src at) = subst (KindRests (length src) at) (sym ek) rests in
@@ -195,25 +195,25 @@ module _ (src : List ℕ) (at : ℕ) (store : List ℕ) (width next : ℕ) (s : 
         (λ same. inr (by_start (kind.Channels (at + 4)) ek h (λ other alike. together crate_count other (at + 4) (crate_start src at store) width next s (four_same src (at + 4) (crate_start src at store) width next s some f other alike (same other alike)))))
         (channel_or_cut src f.exponent f.blues 3 width next s f.fourth)
 
-    by_kind : rest_by (parts_of Crate) src at width (kind_of src at) (crate_start src at store) ≡ (Done next, s) → Or
+    by_kind : rest_by (parts_of Crate) src at width (kind_of src at) (crate_start src at store) ≡ (Ok next, s) → Or
     unfolding parts_of
     by_kind =
-        kind_cases src at (λ (z : Kind). kind_of src at ≡ z → rest_by (parts_of Crate) src at width z (crate_start src at store) ≡ (Done next, s) → Or)
+        kind_cases src at (λ (z : Kind). kind_of src at ≡ z → rest_by (parts_of Crate) src at width z (crate_start src at store) ≡ (Ok next, s) → Or)
         (λ ek e. fault_done 9 next _ s e)
         (λ h b ek e. inr (by_start kind.Flat ek h (flat_full at (crate_start src at store) 0 width e)))
         (λ h b m ek e. four_or ek h (apart crate_count src (at + 4) (crate_start src at store) width next s e))
         (λ h b m ek e. inr (by_start (kind.Pixel (at + 4)) ek h (flat_full (at + 4) (crate_start src at store) 4 (width - 1) e)))
         refl
 
-  by_width : crate_row src at store width ≡ (Done next, s) → ((c : CutRow src at store width) × Short src width c.end) ⊎ Full src at store width (Done next, s)
+  by_width : crate_row src at store width ≡ (Ok next, s) → ((c : CutRow src at store width) × Short src width c.end) ⊎ Full src at store width (Ok next, s)
   unfolding row_of row_by parts_of
   by_width e = go (is_flat_width width) refl
     where
-      go : (b : Bool) → is_flat_width width ≡ b → ((c : CutRow src at store width) × Short src width c.end) ⊎ Full src at store width (Done next, s)
+      go : (b : Bool) → is_flat_width width ≡ b → ((c : CutRow src at store width) × Short src width c.end) ⊎ Full src at store width (Ok next, s)
       go true t = inr (λ other alike. simp t (flat_full at store 0 width (simp t at e) other alike))
       go false t = by_kind t (simp t at e)
 
 -- "no answer but 9 rests on a missing byte", but for that cut
-pub row_or_cut : (src : List ℕ) (at : ℕ) (store : List ℕ) (width next : ℕ) (s : List ℕ) → at ≤ length src → crate_row src at store width ≡ (Done next, s)
-    → ((c : CutRow src at store width) × Short src width c.end) ⊎ Full src at store width (Done next, s)
+pub row_or_cut : (src : List ℕ) (at : ℕ) (store : List ℕ) (width next : ℕ) (s : List ℕ) → at ≤ length src → crate_row src at store width ≡ (Ok next, s)
+    → ((c : CutRow src at store width) × Short src width c.end) ⊎ Full src at store width (Ok next, s)
 row_or_cut src at store width next s h e = by_width src at store width next s (row_onward crate_row (reading_sound Crate) src at store width next (ap (λ (z : Taken × List ℕ). z.0) e) h).1 e

@@ -52,9 +52,9 @@ pub literal_start : (d : ℕ) (s : List ℕ) (i : ℕ) (xs : List ℕ) (p : ℕ)
 unfolding spread bytes_from
 literal_start d s i xs p = refl
 
-pub run_start : {A : Type 0} (d : ℕ) (s : List A) (i : ℕ) (v : A) → s ≡ spread d s i (replicate 0 v)
+pub run_start : {A : Type 0} (d : ℕ) (s : List A) (i : ℕ) → s ≡ spread d s i []
 unfolding spread
-run_start d s i v = refl
+run_start d s i = refl
 
 pub literal_next : (d : ℕ) (s s' : List ℕ) (i k : ℕ) (xs : List ℕ) (p j b : ℕ) → s' ≡ spread d s i (bytes_from xs p k) → j ≡ i + d * k → b ≡ get_or xs (p + k) 0
     → set s' j b ≡ spread d s i (bytes_from xs p (k + 1))
