@@ -2,47 +2,44 @@
 ghost use Rattle.std.specs.Prelude.{◌≡◌};
 ghost use Rattle.words.specs.Fields.{is_blank, trim_start, trim_end, trim};
 
-// White space: 9 to 13, and 32.
+// White space: 9 to 13, and 32. `is_ascii_whitespace` leaves out 11, which `is_blank` of the specs has.
+#[tactic(auto, unfolding(crate::specs::Fields::is_blank))]
 fn is_blank(x: u8) -> bool
     ensures { result ≡ is_blank x }
 {
-    if x == 32 {
-        return true;
-    }
-    if x < 9 {
-        return false;
-    }
-    x <= 13
+    matches!(x, 9..=13 | 32)
 }
 
 // The part without the white space that it starts with.
+#[tactic(auto, using(crate::proofs::Laws::Fields::start_none, crate::proofs::Laws::Fields::start_on, crate::proofs::Laws::Fields::start_stop))]
 fn trim_start(part: &[u8]) -> &[u8]
     ensures { result.now ≡ trim_start part.now }
 {
-    let mut at = 0;
-    while at < part.len() {
-        if is_blank(part[at]) {
-            at += 1;
+    let mut left = part;
+    while let [first, rest @ ..] = left {
+        if is_blank(*first) {
+            left = rest;
         } else {
-            return &part[at..];
+            break;
         }
     }
-    &part[at..]
+    left
 }
 
 // The part without the white space that it ends with.
+#[tactic(auto, using(crate::proofs::Laws::Fields::end_none, crate::proofs::Laws::Fields::end_on, crate::proofs::Laws::Fields::end_stop))]
 fn trim_end(part: &[u8]) -> &[u8]
     ensures { result.now ≡ trim_end part.now }
 {
-    let mut end = part.len();
-    while 0 < end {
-        if is_blank(part[end - 1]) {
-            end -= 1;
+    let mut left = part;
+    while let [rest @ .., last] = left {
+        if is_blank(*last) {
+            left = rest;
         } else {
-            return &part[0..end];
+            break;
         }
     }
-    &part[0..end]
+    left
 }
 
 // The part without the white space at its ends.

@@ -3,46 +3,32 @@ ghost use Rattle.std.specs.Prelude.{◌≡◌, ◌≤◌, length};
 ghost use Rattle.words.specs.Lines.{past, same, is_first, lines_end};
 
 // The place after the first byte b from `at` on, or the end of the bytes.
+#[tactic(auto, using(crate::proofs::Laws::Lines::past_found, crate::proofs::Laws::Lines::past_missing))]
 pub fn past(bytes: &[u8], at: usize, b: u8) -> usize
     requires { at ≤ length bytes.now }
     ensures value { result ≡ past b bytes.now at }
     ensures lower_bound { (at ≤ result) × (result ≤ length bytes.now) }
 {
-    let mut p = at;
-    while p < bytes.len() {
-        if bytes[p] == b {
-            return p + 1;
-        }
-        p += 1;
+    match bytes[at..].iter().position(|x| *x == b) {
+        Some(before) => at + before + 1,
+        None => bytes.len(),
     }
-    p
 }
 
 // Whether two byte strings are the same.
+#[tactic(auto, using(crate::proofs::Laws::Lines::same_bytes))]
 pub fn same(a: &[u8], b: &[u8]) -> bool
     ensures { result ≡ same a.now b.now }
 {
-    if a.len() != b.len() {
-        return false;
-    }
-    let mut i = 0;
-    while i < a.len() {
-        if a[i] != b[i] {
-            return false;
-        }
-        i += 1;
-    }
-    true
+    a == b
 }
 
 // Whether a line is one that a file may start with.
+#[tactic(auto, unfolding(crate::specs::Lines::is_first))]
 pub fn is_first(line: &[u8]) -> bool
     ensures { result ≡ is_first line.now }
 {
-    if same(line, b"#?RADIANCE\n") {
-        return true;
-    }
-    same(line, b"#?RGBE\n")
+    same(line, b"#?RADIANCE\n") || same(line, b"#?RGBE\n")
 }
 
 // The place after the further lines, which start at `at`.
@@ -53,10 +39,10 @@ pub fn lines_end(bytes: &[u8], at: usize) -> usize
 {
     let mut p = at;
     while p < bytes.len() {
-        if bytes[p] == 10 {
+        if bytes[p] == b'\n' {
             return p + 1;
         }
-        p = past(bytes, p, 10);
+        p = past(bytes, p, b'\n');
     }
     p
 }

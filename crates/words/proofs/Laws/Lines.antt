@@ -1,15 +1,19 @@
 -- The laws that proofs use of `specs/Lines.antt`.
 use Prim.Native.Nat.{ℕ, zero, suc, ◌+◌, ◌-◌, ◌<◌, ◌≤◌}
-use mathlib.Core.Bool.{Bool, true, false, ◌&&◌}
+use mathlib.Core.Bool.{Bool, true, false, cond, ◌&&◌}
 use mathlib.Core.List.{List, [], ◌∷◌}
 use mathlib.Core.Path.{◌≡◌, refl, sym, ap, ◌∙◌}
 use native.Mathlib.Nat.{not-suc-le-zero, lt_of_not-le}
 use native.Mathlib.Omega.{arith}
-use native.Mathlib.Numerals.{add-one}
 use borrow.Author.Tests.{eq-eqb, eqb-true, ne_eqb, le-leb, lt-leb, leb-false, ltb-true, ltb-false}
-use lib.ListN.{length, get_or, drop, length-drop, drop_of_length-le}
-use lib.Seq.{drop-cons, get_or-drop}
+use lib.ListN.{length, take, get_or, drop, length-drop, drop_of_length-le}
+use lib.Seq.{take_all, drop-cons, get_or-drop}
 use lib.Dec.{eqb, leb, ltb}
+use lib.Pointwise.{pointwise}
+use Rattle.std.specs.Prelude.{Option, Some, None, MatchOption, position}
+use Rattle.std.specs.List.{position_from}
+use Rattle.std.proofs.lemmas.Iterator.Adapters.{position_from-zero}
+use Rattle.std.proofs.lemmas.Option.{MatchOption-at_none, MatchOption-at_some}
 use Rattle.steps.specs.Loop.{pick, more, run}
 use Rattle.steps.proofs.Laws.Loop.{Runs, runs_start, runs_more, runs_halt}
 use Rattle.steps.proofs.Laws.Turns.{by_test, Leads, Falls, run_keeps, never_out}
@@ -92,24 +96,35 @@ past_most b bytes at p h l e =
     let there : get_or (drop at bytes) (p - at) 0 ≡ b = rw (get_or-drop at bytes (p - at) 0, k) e in
     omega (arith, up_to_most b (drop at bytes) (p - at) (omega (arith, length-drop at bytes)) there)
 
--- a search that has come to the place p without finding the byte
-module _ (b : ℕ) (bytes : List ℕ) (p w : ℕ) (is : past b bytes p ≡ w) where
-  pub past_end : length bytes ≤ p → p ≡ w
-  unfolding past up_to
-  past_end h =
-      let none : past b bytes p ≡ p = rw (past, drop_of_length-le bytes h) (omega arith) in
-      sym none ∙ is
+pub past_end : (b : ℕ) (bytes : List ℕ) (at : ℕ) → length bytes ≤ at → past b bytes at ≡ at
+unfolding past up_to
+past_end b bytes at h = rw (drop_of_length-le bytes h) (omega arith)
 
-  module _ (h : p < length bytes) where
-    pub past_found : get_or bytes p 0 ≡ b → p + 1 ≡ w
-    unfolding past
-    past_found e = ap (λ (n : ℕ). p + n) (sym (rw (drop-cons bytes p 0 h) (up_to_found b (get_or bytes p 0) (drop (suc p) bytes) e))) ∙ is
+-- what the library's search from a place on has told
+position_up_to : (b i : ℕ) (xs : List ℕ) → MatchOption (position_from (λ x. eqb x b) i xs) (up_to b xs ≡ length xs) (λ n. (i ≤ n) × (up_to b xs + i ≡ n + 1))
+unfolding up_to
+position_up_to b i [] = refl
+position_up_to b i (x ∷ xs) = go (eqb x b) (position_from (λ x. eqb x b) (i + 1) xs) (position_up_to b (i + 1) xs)
+  where
+    go : (t : Bool) (r : Option ℕ) → MatchOption r (up_to b xs ≡ length xs) (λ n. (i + 1 ≤ n) × (up_to b xs + (i + 1) ≡ n + 1))
+        → MatchOption (cond t (Some i) r) (pick t 1 (1 + up_to b xs) ≡ suc (length xs)) (λ n. (i ≤ n) × (pick t 1 (1 + up_to b xs) + i ≡ n + 1))
+    go true r h = (omega arith, omega arith)
+    go false None h = omega (arith, h)
+    go false (Some n) h = (omega arith, omega arith)
 
-    pub past_on : (get_or bytes p 0 ≡ b → ⊥) → past b bytes (p + 1) ≡ w
-    unfolding past
-    past_on e =
-        let on : past b bytes (p + 1) ≡ past b bytes p = rw (past, add-one, drop-cons bytes p 0 h) (omega (arith, up_to_on b (get_or bytes p 0) (drop (suc p) bytes) e)) in
-        on ∙ is
+module _ (b : ℕ) (bytes : List ℕ) (at : ℕ) (r : Option ℕ) (e : r ≡ position (λ x. eqb x b) (take (length bytes - at) (drop at bytes))) where
+  told : MatchOption r (up_to b (drop at bytes) ≡ length (drop at bytes)) (λ n. (0 ≤ n) × (up_to b (drop at bytes) + 0 ≡ n + 1))
+  told =
+      let all : take (length bytes - at) (drop at bytes) ≡ drop at bytes = take_all (length bytes - at) (drop at bytes) (omega (arith, length-drop at bytes)) in
+      rw (e, all, position_from-zero (λ x. eqb x b) (drop at bytes)) (position_up_to b 0 (drop at bytes))
+
+  pub past_missing : at ≤ length bytes → r ≡ None → length bytes ≡ past b bytes at
+  unfolding past
+  past_missing h k = omega (arith, MatchOption-at_none _ _ k told, length-drop at bytes)
+
+  pub past_found : (n : ℕ) → r ≡ Some n → at + n + 1 ≡ past b bytes at
+  unfolding past
+  past_found n k = omega (arith, MatchOption-at_some _ _ n k told)
 
 -- a search takes nothing exactly at the end of the bytes
 module _ (b : ℕ) (bytes : List ℕ) (at : ℕ) where
@@ -124,7 +139,7 @@ module _ (b : ℕ) (bytes : List ℕ) (at : ℕ) where
       by_place false t = ltb-false _ _ t
 
   pub past_some : at < past b bytes at → at < length bytes
-  past_some h = lt_of_not-le (λ l. no (past_end b bytes at _ refl l))
+  past_some h = lt_of_not-le (λ l. no (sym (past_end b bytes at l)))
     where
       no : at ≡ past b bytes at → ⊥
       no e = omega arith
@@ -142,25 +157,13 @@ same_length (x ∷ xs) (y ∷ ys) h = and_false (eqb x y) (same xs ys) (same_len
     and_false true t e = e
     and_false false t e = refl
 
--- a comparison that has come to the place i with no difference
-module _ (xs ys : List ℕ) (i : ℕ) (w : Bool) (is : same (drop i xs) (drop i ys) ≡ w) (e : length xs ≡ length ys) where
-  pub same_end : length xs ≤ i → true ≡ w
-  unfolding same
-  same_end h =
-      let l : length ys ≤ i = omega arith in
-      let none : same (drop i xs) (drop i ys) ≡ true = rw (drop_of_length-le xs h, drop_of_length-le ys l) in
-      sym none ∙ is
-
-  module _ (h : i < length xs) where
-    front : same (drop i xs) (drop i ys) ≡ (eqb (get_or xs i 0) (get_or ys i 0) && same (drop (suc i) xs) (drop (suc i) ys))
-    unfolding same
-    front = let l : i < length ys = omega arith in rw (drop-cons xs i 0 h, drop-cons ys i 0 l)
-
-    pub same_on : get_or xs i 0 ≡ get_or ys i 0 → same (drop (i + 1) xs) (drop (i + 1) ys) ≡ w
-    same_on k = rw add-one (sym (front ∙ simp (eq-eqb (get_or xs i 0) (get_or ys i 0) k)) ∙ is)
-
-    pub same_not : (get_or xs i 0 ≡ get_or ys i 0 → ⊥) → false ≡ w
-    same_not k = sym (front ∙ simp (ne_eqb (get_or xs i 0) (get_or ys i 0) k)) ∙ is
+-- the library's test of two byte strings
+pub same_bytes : (xs ys : List ℕ) → pointwise eqb xs ys ≡ same xs ys
+unfolding same
+same_bytes [] [] = refl
+same_bytes [] (y ∷ ys) = refl
+same_bytes (x ∷ xs) [] = refl
+same_bytes (x ∷ xs) (y ∷ ys) = ap (λ (t : Bool). eqb x y && t) (same_bytes xs ys)
 
 -- ---- The first line
 

@@ -1,23 +1,15 @@
--- `words::lines::past` meets its contract. The invariant: from here the same place is found.
-use borrow.Author.Rules.{rules}
-use mathlib.Core.Path.{refl}
-use Rattle.words.proofs.Laws.Lines.{past_end, past_found, past_on}
+-- `words::lines::past` meets its contract: a byte is found, or none is.
+use Rattle.std.proofs.Common.{rules, tests, ◌-◌, length, take, drop, eqb}
+use Rattle.std.proofs.lemmas.Iterator.{YieldsList-from_slice}
+use Rattle.std.proofs.lemmas.Iterator.Search.{position_from_yields_List}
+use Rattle.words.proofs.Laws.Lines.{past_found, past_missing}
 use Rattle.words.proofs.lines.past.Goals as goal
+use Rattle.words.proofs.lines.past.Goals.{In-Some, In-None}
 
-pub loop-p-init : goal.loop-p-init
-loop-p-init c = (search rules, search rules, refl)
+pub returns-in-Some-clause-value : goal.returns-in-Some-clause-value
+returns-in-Some-clause-value c =
+    past_found _ _ _ _ (position_from_yields_List {all = take (length c.args.bytes.now - c.args.at) (drop c.args.at c.args.bytes.now)} (λ x. eqb x c.args.b) _ _ _ c.position.ensures.ran (YieldsList-from_slice _ cc) (λ x b q k. search (rules, tests))) _ c.in-Some.is
 
-pub returns-then-bytes-p-clause-value : goal.returns-then-bytes-p-clause-value
-returns-then-bytes-p-clause-value c = search past_found
-
-pub returns-then-bytes-p-clause-lower_bound : goal.returns-then-bytes-p-clause-lower_bound
-returns-then-bytes-p-clause-lower_bound c = (search rules, search rules)
-
-pub loop-p-preserved : goal.loop-p-preserved
-loop-p-preserved c = (search rules, search rules, search past_on)
-
-pub returns-clause-value : goal.returns-clause-value
-returns-clause-value c = search past_end
-
-pub returns-clause-lower_bound : goal.returns-clause-lower_bound
-returns-clause-lower_bound c = (search rules, search rules)
+pub returns-in-None-clause-value : goal.returns-in-None-clause-value
+returns-in-None-clause-value c =
+    past_missing _ _ _ _ (position_from_yields_List {all = take (length c.args.bytes.now - c.args.at) (drop c.args.at c.args.bytes.now)} (λ x. eqb x c.args.b) _ _ _ c.position.ensures.ran (YieldsList-from_slice _ cc) (λ x b q k. search (rules, tests))) (search rules) c.in-None.is
