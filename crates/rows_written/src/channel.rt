@@ -5,6 +5,8 @@ ghost use Rattle.channels_written.specs.Channel.{literals, code, channel};
 ghost use Rattle.channels_written.specs.Inner.{run_of};
 ghost use Rattle.rows_written.specs.Inner.{Stored};
 
+use channels_written::Part;
+
 // How many bytes a run of n takes: none where n is 0.
 fn run_length(n: usize) -> usize
     ensures { (result ≤ 2) × ((v : ℕ) → result ≡ length (run_of v n)) }
@@ -21,12 +23,13 @@ pub(crate) fn channel_length(px: &[u8], from: usize, w: usize) -> usize
     let mut left = w;
     let mut n = 0;
     while 0 < left {
-        let p = channels_written::part_at(px, at, left);
-        let l = p.literals;
-        let s = p.short;
-        let r = p.long;
-        let used = l + s + r;
-        n = n + l + (l + 127) / 128 + run_length(s) + run_length(r);
+        let Part {
+            literals,
+            short,
+            long,
+        } = channels_written::part_at(px, at, left);
+        n += literals + literals.div_ceil(128) + run_length(short) + run_length(long);
+        let used = literals + short + long;
         at += 4 * used;
         left -= used;
     }
@@ -34,18 +37,13 @@ pub(crate) fn channel_length(px: &[u8], from: usize, w: usize) -> usize
 }
 
 // Stores n bytes of the channel that starts at `at`, from `to` on.
+#[tactic(auto, using(crate::proofs::Laws::Store::copy_start, crate::proofs::Laws::Store::copy_next))]
 fn copy_bytes(px: &[u8], at: usize, n: usize, out: &mut [u8], to: usize)
     requires { (at + 4 * n < length px.now + 4) × (to + n ≤ length out.old) }
     ensures { out.new ≡ spread 1 out.old to (channel px.now at n) }
 {
-    let mut a = at;
-    let mut left = n;
-    let mut o = to;
-    while 0 < left {
-        out[o] = px[a];
-        a += 4;
-        o += 1;
-        left -= 1;
+    for k in 0..n {
+        out[to + k] = px[at + 4 * k];
     }
 }
 
@@ -58,10 +56,10 @@ fn write_literals(px: &[u8], at: usize, n: usize, out: &mut [u8], to: usize) -> 
     let mut left = n;
     let mut o = to;
     while 0 < left {
-        let c = steps::least(128, left);
+        let c = left.min(128);
         out[o] = c as u8;
         copy_bytes(px, a, c, out, o + 1);
-        o = o + 1 + c;
+        o += 1 + c;
         a += 4 * c;
         left -= c;
     }
@@ -90,14 +88,15 @@ pub(crate) fn write_channel(px: &[u8], from: usize, w: usize, out: &mut [u8], to
     let mut left = w;
     let mut o = to;
     while 0 < left {
-        let p = channels_written::part_at(px, at, left);
-        let l = p.literals;
-        let s = p.short;
-        let r = p.long;
-        let used = l + s + r;
-        o = write_literals(px, at, l, out, o);
-        o = write_run(px, at + 4 * l, s, out, o);
-        o = write_run(px, at + 4 * (l + s), r, out, o);
+        let Part {
+            literals,
+            short,
+            long,
+        } = channels_written::part_at(px, at, left);
+        o = write_literals(px, at, literals, out, o);
+        o = write_run(px, at + 4 * literals, short, out, o);
+        o = write_run(px, at + 4 * (literals + short), long, out, o);
+        let used = literals + short + long;
         at += 4 * used;
         left -= used;
     }

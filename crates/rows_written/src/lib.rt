@@ -26,9 +26,10 @@ pub fn row_length(px: &[u8], at: usize, w: usize) -> usize
     ensures { result ≡ length (written_row px.now at w) }
 {
     if steps::is_coded(w) {
-        return coded_length(px, at, w);
+        coded_length(px, at, w)
+    } else {
+        4 * w
     }
-    4 * w
 }
 
 // Stores the mark of a row of w pixels.
@@ -36,10 +37,8 @@ fn write_mark(w: usize, out: &mut [u8], to: usize)
     requires { (w < 65536) × (to + 4 ≤ length out.old) }
     ensures { out.new ≡ spread 1 out.old to (mark w) }
 {
-    out[to] = 2;
-    out[to + 1] = 2;
-    out[to + 2] = (w / 256) as u8;
-    out[to + 3] = (w % 256) as u8;
+    let [high, low] = (w as u16).to_be_bytes();
+    steps::put_bytes(&[2, 2, high, low], 0, out, to, 4);
 }
 
 // Stores a coded row of w pixels, the first at `at`, and returns the place after it.
@@ -60,8 +59,9 @@ pub fn write_row(px: &[u8], at: usize, w: usize, out: &mut [u8], to: usize) -> u
     ensures { Stored out.old to (written_row px.now at w) result out.new }
 {
     if steps::is_coded(w) {
-        return write_coded(px, at, w, out, to);
+        write_coded(px, at, w, out, to)
+    } else {
+        steps::put_bytes(px, at, out, to, 4 * w);
+        to + 4 * w
     }
-    steps::put_bytes(px, at, out, to, 4 * w);
-    to + 4 * w
 }

@@ -3,17 +3,18 @@ use mathlib.Core.Path.{◌≡◌, refl, sym, ap, ◌∙◌}
 use mathlib.Core.Logic.{⊎_elim}
 use mathlib.Core.List.{List, [], ◌∷◌, ◌++◌}
 use Prim.Native.Nat.{ℕ, zero, suc, ◌+◌, ◌-◌, ◌*◌, ◌/◌, ◌%◌, ◌≤◌, ◌<◌, min}
+use native.Mathlib.Numerals.{add-one}
 use native.Mathlib.Omega.{arith}
 use lib.ListN.{length, get_or, take, drop, set, length-append, drop_of_length-le}
 use lib.Seq.{take_all}
 use Rattle.steps.proofs.Laws.Order.{lt_or_ge}
-use Rattle.steps.specs.Place.{spread}
+use Rattle.steps.specs.Place.{spread, bytes_from}
 use Rattle.channels_written.specs.Channel.{literals, code, gather, stretch, cut, channel}
 use Rattle.rows_written.specs.Row.{mark, coded_row, worst_channel}
 use Rattle.rows_written.specs.Inner.{Stored}
 use Rattle.channels_written.specs.Inner.{run_of, Parted}
 use Rattle.channels_written.proofs.Laws.Channel.{literals_packet, length_literals}
-use Rattle.steps.proofs.Laws.Place.{spread_append}
+use Rattle.steps.proofs.Laws.Place.{spread_append, spread_snoc}
 use Rattle.channels_written.proofs.Laws.Places.{length_channel, drop_channel, take_channel, get_or_channel}
 use Rattle.channels_written.proofs.Laws.Part.{run_some}
 
@@ -37,14 +38,23 @@ pub stored_end : (f : List ℕ → List ℕ) (px : List ℕ) (a left : ℕ) (out
 unfolding spread
 stored_end f px a left out w o z h e = sym (ap (spread 1 out o) (none_left f px a left z h)) ∙ e
 
--- ---- a byte
+-- ---- a loop that stores a channel's bytes from the front: what is stored is the first k of them
 
-pub copy_turn : (px out : List ℕ) (a left o : ℕ) → 0 < left → spread 1 out o (channel px a left) ≡ spread 1 (set out o (get_or px a 0)) (o + 1) (channel px (a + 4) (left - 1))
+pub copy_start : (s : List ℕ) (i : ℕ) → s ≡ spread 1 s i []
 unfolding spread
-copy_turn px out a zero o h = absurd (omega arith)
-copy_turn px out a (suc n) o h =
-    let m : n ≡ suc n - 1 = omega arith in
-    ap (λ (k : ℕ). spread 1 (set out o (get_or px a 0)) (o + 1) (channel px (a + 4) k)) m
+copy_start s i = refl
+
+channel_snoc : (px : List ℕ) (at k : ℕ) → channel px at k ++ get_or px (at + 4 * k) 0 ∷ [] ≡ channel px at (suc k)
+channel_snoc px at zero = ap (λ (a : ℕ). get_or px a 0 ∷ []) (omega arith)
+channel_snoc px at (suc k) =
+    let next : at + 4 * suc k ≡ at + 4 + 4 * k = omega arith in
+    rw next (ap (λ (l : List ℕ). get_or px at 0 ∷ l) (channel_snoc px (at + 4) k))
+
+pub copy_next : (s s' : List ℕ) (i k : ℕ) (px : List ℕ) (at j b : ℕ) → s' ≡ spread 1 s i (channel px at k) → j ≡ i + k → b ≡ get_or px (at + 4 * k) 0
+    → set s' j b ≡ spread 1 s i (channel px at (k + 1))
+copy_next s s' i k px at j b e ej eb =
+    let place : j ≡ i + 1 * length (channel px at k) = omega (arith, length_channel px at k) in
+    rw (e, place, eb, add-one k) (spread_snoc 1 s i (channel px at k) (get_or px (at + 4 * k) 0) ∙ ap (spread 1 s i) (channel_snoc px at k))
 
 -- ---- literals
 
@@ -83,11 +93,11 @@ literals_size px at n = omega (arith, length_literals 0 (channel px at n) (omega
 
 -- a packet of literals is stored
 pub literals_store : (px out d : List ℕ) (a left c o : ℕ) → 0 < left → c ≡ min 128 left → d ≡ spread 1 (set out o c) (o + 1) (channel px a c)
-    → spread 1 out o (literals 0 (channel px a left)) ≡ spread 1 d (o + 1 + c) (literals 0 (channel px (a + 4 * c) (left - c)))
+    → spread 1 out o (literals 0 (channel px a left)) ≡ spread 1 d (o + (1 + c)) (literals 0 (channel px (a + 4 * c) (left - c)))
 unfolding spread
 literals_store px out d a left c o h e w =
     ap (spread 1 out o) (literals_turn px a left c h e)
-    ∙ stored_then (set out o c) d (o + 1) (o + 1 + c) (channel px a c) (literals 0 (channel px (a + 4 * c) (left - c))) (ap (λ (k : ℕ). o + 1 + k) (sym (length_channel px a c)), w)
+    ∙ stored_then (set out o c) d (o + 1) (o + (1 + c)) (channel px a c) (literals 0 (channel px (a + 4 * c) (left - c))) (omega (arith, length_channel px a c), w)
 
 -- ---- a run
 
@@ -132,12 +142,12 @@ module _ (px : List ℕ) (at left l s r : ℕ) where
 
 -- ---- a row
 
-pub mark_store : (out : List ℕ) (to w : ℕ) → set (set (set (set out to 2) (to + 1) 2) (to + 2) (w / 256)) (to + 3) (w % 256) ≡ spread 1 out to (mark w)
-unfolding spread
-mark_store out to w =
-    let two : to + 2 ≡ to + 1 + 1 = omega arith in
-    let three : to + 3 ≡ to + 1 + 1 + 1 = omega arith in
-    rw (two, three)
+pub mark_store : (out bs : List ℕ) (to w : ℕ) → w < 65536 → bs ≡ (w / 256 % 256) ∷ (w % 256) ∷ []
+    → spread 1 out to (bytes_from (2 ∷ 2 ∷ get_or bs 0 0 ∷ get_or bs 1 0 ∷ []) 0 4) ≡ spread 1 out to (mark w)
+unfolding bytes_from
+mark_store out bs to w h e =
+    let high : w / 256 % 256 ≡ w / 256 = omega arith in
+    rw (e, high)
 
 pub row_store : (px d₀ d₁ d₂ d₃ d₄ d₅ : List ℕ) (at w o₀ o₂ o₃ o₄ : ℕ) → d₁ ≡ spread 1 d₀ o₀ (mark w)
     → Stored d₁ (o₀ + 4) (code (channel px at w)) o₂ d₂

@@ -15,7 +15,7 @@ returns-then-is_coded c =
     let a = c.args in
     c.coded_length.ensures ∙ sym (ap length (row_coded a.px.now a.at a.w (sym c.is_coded.ensures ∙ c.if-is_coded.true)))
 
-pub returns : goal.returns
-returns c =
+pub returns-else-is_coded : goal.returns-else-is_coded
+returns-else-is_coded c =
     let a = c.args in
     sym (flat_size a.px.now a.at a.w (sym c.is_coded.ensures ∙ c.if-is_coded.false))

@@ -24,8 +24,8 @@ put_bytes-requires c =
     let a = c.args in
     omega (arith, flat_size a.px.now a.at a.w (sym c.is_coded.ensures ∙ c.if-is_coded.false))
 
-pub returns : goal.returns
-returns c =
+pub returns-else-is_coded : goal.returns-else-is_coded
+returns-else-is_coded c =
     let a = c.args in
     let t = sym c.is_coded.ensures ∙ c.if-is_coded.false in
     (omega (arith, flat_size a.px.now a.at a.w t), c.put_bytes.ensures ∙ sym (ap (spread 1 a.out.now a.to) (row_flat a.px.now a.at a.w t)))

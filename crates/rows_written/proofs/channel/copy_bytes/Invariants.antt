@@ -1,16 +1,8 @@
--- `rows_written::channel::copy_bytes` meets its contract. The invariant: what is left to store, stored, gives what was to be stored.
+-- `rows_written::channel::copy_bytes` meets its contract. The invariant: the first k bytes are stored.
 use mathlib.Core.Path.{◌≡◌}
-use Prim.Native.Nat.{◌+◌, ◌*◌}
-use lib.ListN.{length}
 use Rattle.steps.specs.Place.{spread}
 use Rattle.channels_written.specs.Channel.{channel}
 use Rattle.rows_written.proofs.channel.copy_bytes.Given as goal
 
-abbrev pub invariant-loop-left : goal.invariant-loop-left
-invariant-loop-left l = (l.a + 4 * l.left ≡ l.at + 4 * l.n)
-    × (l.o + l.left ≡ l.to + l.n)
-    × (length l.out ≡ length l.initial.out)
-    × (spread 1 l.out l.o (channel l.px l.a l.left) ≡ spread 1 l.initial.out l.to (channel l.px l.at l.n))
-
-abbrev pub decreases-loop-left : goal.decreases-loop-left
-decreases-loop-left l = l.left
+abbrev pub invariant-loop-k : goal.invariant-loop-k
+invariant-loop-k l = l.out ≡ spread 1 l.initial.out l.to (channel l.px l.at l.k)

@@ -9,74 +9,35 @@ use Rattle.rows_written.proofs.channel.write_channel.Goals as goal
 pub loop-left-init : goal.loop-left-init
 loop-left-init c = (refl, refl, refl, refl)
 
-pub part_at-p-requires : goal.part_at-p-requires
-part_at-p-requires c = omega arith
-
-pub overflow_add-used : goal.overflow_add-used
-overflow_add-used c = omega arith
-
-pub overflow_add-used-in-loop-left : goal.overflow_add-used-in-loop-left
-overflow_add-used-in-loop-left c = omega arith
-
 pub write_literals-o-requires : goal.write_literals-o-requires
 write_literals-o-requires c =
-    let p = c.part_at-p.result in
-    let size = part_size c.args.px.now c.loop-left.at c.loop-left.left p.literals p.short p.long c.part_at-p.ensures.parted in
+    let p = c.part_at-literals.result in
+    let size = part_size c.args.px.now c.loop-left.at c.loop-left.left p.literals p.short p.long c.part_at-literals.ensures.parted in
     omega arith
-
-pub overflow_mul-l : goal.overflow_mul-l
-overflow_mul-l c = omega arith
-
-pub overflow_add-at : goal.overflow_add-at
-overflow_add-at c = omega arith
 
 pub write_run-o-requires : goal.write_run-o-requires
 write_run-o-requires c =
-    let p = c.part_at-p.result in
-    let size = part_size c.args.px.now c.loop-left.at c.loop-left.left p.literals p.short p.long c.part_at-p.ensures.parted in
+    let p = c.part_at-literals.result in
+    let size = part_size c.args.px.now c.loop-left.at c.loop-left.left p.literals p.short p.long c.part_at-literals.ensures.parted in
     omega (arith, c.write_literals-o.auto)
-
-pub overflow_add-l : goal.overflow_add-l
-overflow_add-l c = omega arith
-
-pub overflow_mul-l-in-loop-left : goal.overflow_mul-l-in-loop-left
-overflow_mul-l-in-loop-left c = omega arith
-
-pub overflow_add-at-in-loop-left : goal.overflow_add-at-in-loop-left
-overflow_add-at-in-loop-left c = omega arith
 
 pub write_run-o-requires-in-loop-left : goal.write_run-o-requires-in-loop-left
 write_run-o-requires-in-loop-left c =
-    let p = c.part_at-p.result in
-    let size = part_size c.args.px.now c.loop-left.at c.loop-left.left p.literals p.short p.long c.part_at-p.ensures.parted in
+    let p = c.part_at-literals.result in
+    let size = part_size c.args.px.now c.loop-left.at c.loop-left.left p.literals p.short p.long c.part_at-literals.ensures.parted in
     omega (arith, c.write_literals-o.auto, c.write_run-o.auto)
-
-pub overflow_mul-at : goal.overflow_mul-at
-overflow_mul-at c = omega arith
-
-pub overflow_add-at-in-loop-left-2 : goal.overflow_add-at-in-loop-left-2
-overflow_add-at-in-loop-left-2 c = omega arith
-
-pub overflow_sub-left : goal.overflow_sub-left
-overflow_sub-left c = omega arith
-
-pub loop-left-smaller : goal.loop-left-smaller
-loop-left-smaller c = omega arith
 
 pub loop-left-preserved : goal.loop-left-preserved
 loop-left-preserved c =
-    let p = c.part_at-p.result in
+    let p = c.part_at-literals.result in
     let px = c.args.px.now in
-    let size = part_size px c.loop-left.at c.loop-left.left p.literals p.short p.long c.part_at-p.ensures.parted in
-    let store = part_store px c.loop-left.at c.loop-left.left p.literals p.short p.long c.part_at-p.ensures.parted in (
+    let size = part_size px c.loop-left.at c.loop-left.left p.literals p.short p.long c.part_at-literals.ensures.parted in
+    let store = part_store px c.loop-left.at c.loop-left.left p.literals p.short p.long c.part_at-literals.ensures.parted in (
       omega arith,
       omega (arith, c.write_literals-o.ensures.0, c.write_run-o.ensures.0, c.write_run-o-in-loop-left.ensures.0),
       omega (arith, c.write_literals-o.auto, c.write_run-o.auto, c.write_run-o-in-loop-left.auto),
       sym (store c.loop-left.out _ _ _ c.loop-left.o _ _ _ c.write_literals-o.ensures c.write_run-o.ensures c.write_run-o-in-loop-left.ensures) ∙ c.loop-left.invariant.3,
     )
-
-pub shape_of-out : goal.shape_of-out
-shape_of-out c = c.loop-left.invariant.2
 
 pub returns : goal.returns
 returns c =

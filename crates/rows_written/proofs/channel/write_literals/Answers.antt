@@ -11,54 +11,27 @@ use Rattle.rows_written.proofs.channel.write_literals.Goals as goal
 pub loop-left-init : goal.loop-left-init
 loop-left-init c = (refl, refl, refl, refl)
 
-pub overflow_cast-out : goal.overflow_cast-out
-overflow_cast-out c = omega arith
-
 pub bounds-out-o : goal.bounds-out-o
 bounds-out-o c =
     let t = c.loop-left in
     omega (arith, literals_size c.args.px.now t.a t.left)
-
-pub overflow_add-o : goal.overflow_add-o
-overflow_add-o c = omega arith
 
 pub copy_bytes-requires : goal.copy_bytes-requires
 copy_bytes-requires c =
     let t = c.loop-left in
     simp length-set (omega (arith, literals_size c.args.px.now t.a t.left))
 
-pub overflow_add-o-in-loop-left : goal.overflow_add-o-in-loop-left
-overflow_add-o-in-loop-left c = omega arith
-
-pub overflow_add-o-in-loop-left-2 : goal.overflow_add-o-in-loop-left-2
-overflow_add-o-in-loop-left-2 c = omega arith
-
-pub overflow_mul-a : goal.overflow_mul-a
-overflow_mul-a c = omega arith
-
-pub overflow_add-a : goal.overflow_add-a
-overflow_add-a c = omega arith
-
-pub overflow_sub-left : goal.overflow_sub-left
-overflow_sub-left c = omega arith
-
-pub loop-left-smaller : goal.loop-left-smaller
-loop-left-smaller c = omega arith
-
 pub loop-left-preserved : goal.loop-left-preserved
 loop-left-preserved c =
     let t = c.loop-left in
     let px = c.args.px.now in
-    let n = c.least-c.result in
+    let n = c.min-c.result in
     let e = c.copy_bytes.ensures in (
       omega arith,
       omega (arith, literals_size px t.a t.left, literals_size px (t.a + 4 * n) (t.left - n)),
       ap length e ∙ length_spread 1 (set t.out t.o n) (t.o + 1) (channel px t.a n) ∙ length-set t.out t.o n ∙ t.invariant.2,
       sym (literals_store px t.out _ t.a t.left n t.o (omega arith) (omega arith) e) ∙ t.invariant.3,
     )
-
-pub shape_of-out : goal.shape_of-out
-shape_of-out c = c.loop-left.invariant.2
 
 pub returns : goal.returns
 returns c =
