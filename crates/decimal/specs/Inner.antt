@@ -10,8 +10,3 @@ digits_of (suc k) n = (n % 10) ∷ digits_of k (n / 10)
 unfoldable pub carried : ℕ → ℕ → List ℕ → List ℕ
 carried b c [] = []
 carried b c (d ∷ ds) = ((d * b + c) % 10) ∷ carried b ((d * b + c) / 10) ds
-
--- digits times b^k, in as many digits
-unfoldable pub carried_times : ℕ → ℕ → List ℕ → List ℕ
-carried_times b zero ds = ds
-carried_times b (suc k) ds = carried_times b k (carried b 0 ds)

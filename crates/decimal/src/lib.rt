@@ -3,12 +3,11 @@
 
 pub mod leading;
 
-ghost use Rattle.std.specs.Prelude.{◌≡◌, ◌*◌, ◌/◌, ◌%◌, ◌≤◌, ◌<◌, length};
-ghost use Rattle.steps.specs.Place.{spread};
+ghost use Rattle.std.specs.Prelude.{◌≡◌, ◌<◌, ◌≤◌, length};
 ghost use Rattle.decimal.specs.Decimal.{Reduced, decimals_of};
 
 // The number m / 2^j.
-#[derive(Clone, Copy)]
+#[derive(Clone, Copy, Debug, PartialEq, Eq)]
 pub struct Ratio {
     pub m: usize,
     pub j: usize,
@@ -18,48 +17,23 @@ pub struct Ratio {
 pub fn reduced(m: usize, j: usize) -> Ratio
     ensures { Reduced m j result.m result.j }
 {
-    let mut n = m;
-    let mut k = j;
-    while 0 < k {
-        if n % 2 == 1 {
-            return Ratio { m: n, j: k };
-        }
-        n /= 2;
-        k -= 1;
+    if m == 0 {
+        return Ratio { m: 0, j: 0 };
     }
-    Ratio { m: n, j: k }
+    let twos = (m.trailing_zeros() as usize).min(j);
+    Ratio {
+        m: m >> twos,
+        j: j - twos,
+    }
 }
 
-// The first decimal of rest / unit, which is below 1.
-fn digit(rest: usize, unit: usize) -> u8
+// Stores the first decimals of rest / unit, which is below 1.
+pub fn put_decimals(mut rest: usize, unit: usize, out: &mut [u8])
     requires { (unit ≤ 1000000000000000000) × (rest < unit) }
-    ensures value { result ≡ 10 * rest / unit }
-    ensures upper_bound { result ≤ 9 }
+    ensures { out.new ≡ decimals_of rest unit (length out.old) }
 {
-    (10 * rest / unit) as u8
-}
-
-// What remains after it.
-fn remainder(rest: usize, unit: usize) -> usize
-    requires { (unit ≤ 1000000000000000000) × (rest < unit) }
-    ensures value { result ≡ 10 * rest % unit }
-    ensures upper_bound { result < unit }
-{
-    10 * rest % unit
-}
-
-// Stores the first d decimals of rest / unit, which is below 1.
-pub fn put_decimals(rest: usize, unit: usize, d: usize, out: &mut [u8])
-    requires { (unit ≤ 1000000000000000000) × (rest < unit) × (d ≤ length out.old) }
-    ensures { out.new ≡ spread 1 out.old 0 (decimals_of rest unit d) }
-{
-    let mut n = rest;
-    let mut i = 0;
-    let mut left = d;
-    while 0 < left {
-        out[i] = 48 + digit(n, unit);
-        n = remainder(n, unit);
-        i += 1;
-        left -= 1;
+    for decimal in out.iter_mut() {
+        *decimal = b'0' + (10 * rest / unit) as u8;
+        rest = 10 * rest % unit;
     }
 }

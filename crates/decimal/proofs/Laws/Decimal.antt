@@ -1,36 +1,52 @@
 -- The laws of `specs/Decimal.antt`.
-use Prim.Native.Nat.{ℕ, zero, suc, ◌+◌, ◌-◌, ◌*◌, ◌/◌, ◌%◌, ◌^◌, ◌<◌, ◌≤◌}
-use mathlib.Core.List.{List}
-use mathlib.Core.Logic.{inl, inr, ⊎_elim}
+use Prim.Native.Nat.{ℕ, zero, suc, ◌+◌, ◌-◌, ◌*◌, ◌/◌, ◌%◌, ◌^◌, ◌<◌, ◌≤◌, min}
+use mathlib.Core.List.{List, ◌++◌, append-nil, append_assoc}
+use mathlib.Core.Logic.{◌⊎◌, inl, inr, ⊎_elim}
 use mathlib.Core.Path.{◌≡◌, refl, sym, ap, ◌∙◌}
-use native.Mathlib.Nat.{not-suc-le-zero, pow-succ', mul_assoc, mul_comm, eq_of_mul-eq-mul_right, div-lt_iff_lt-mul, mod-lt}
+use native.Mathlib.Nat.{pow-succ', mul_assoc, mul_comm, eq_of_mul-eq-mul_right, div-lt_iff_lt-mul, zero-mul}
+use native.Mathlib.Numerals.{add-one}
 use native.Mathlib.Omega.{arith}
-use lib.ListN.{set}
+use lib.ListN.{length, take, set}
+use lib.Seq.{take-suc-set, take-length}
 use lib.Pow.{pow_pos, pow-add}
-use Rattle.steps.specs.Place.{spread}
+use Rattle.std.specs.Int.{w64, trailing_zeros, bit_at}
+use Rattle.std.proofs.lemmas.Nat.{mod-pow-add, shr_split}
+use Rattle.std.proofs.lemmas.Nat.Bits.{bit_at-trailing_zeros}
+use Rattle.steps.proofs.Laws.Order.{lt_or_ge}
 use Rattle.decimal.specs.Decimal.{Reduced, decimals_of}
 
--- half of an even number over half the power
-pub reduced_half : (m j n k : ℕ) → n * 2 ^ j ≡ m * 2 ^ k → 0 < k → (n % 2 ≡ 1 → ⊥) → n / 2 * 2 ^ j ≡ m * 2 ^ (k - 1)
-reduced_half m j n zero e h odd = absurd (not-suc-le-zero h)
-reduced_half m j n (suc k) e h odd =
-    let z : suc k - 1 ≡ k = omega arith in
-    rw z (halved (n / 2) (n / 2 * 2 ^ j) (2 ^ j) (2 ^ k) (omega arith) refl (rw (pow-succ' 2 k) at e))
+-- a power taken from both
+pub reduced_by : (m j t : ℕ) → t ≤ j → (j - t ≡ 0) ⊎ (m / 2 ^ t % 2 ≡ 1) → m / 2 ^ t * 2 ^ t ≡ m → Reduced m j (m / 2 ^ t) (j - t)
+reduced_by m j t h l e =
+    let d : ℕ = j - t in
+    let power : j ≡ t + d = omega arith in
+    record {
+      same = ap (λ (i : ℕ). m / 2 ^ t * 2 ^ i) power ∙ ap (λ (p : ℕ). m / 2 ^ t * p) (pow-add 2 t d) ∙ sym (mul_assoc (m / 2 ^ t) (2 ^ t) (2 ^ d)) ∙ ap (λ (x : ℕ). x * 2 ^ d) e;
+      within = omega arith;
+      least = l;
+    }
+
+-- below its lowest 1 a number has nothing
+zeros_below : (m t : ℕ) → ((i : ℕ) → i < t → bit_at m i ≡ 0) → m % 2 ^ t ≡ 0
+zeros_below m zero h = omega arith
+zeros_below m (suc t) h =
+    let here : m / 2 ^ t % 2 ≡ 0 = h t (omega arith) in
+    let rest = zeros_below m t (λ i l. h i (omega arith)) in
+    let one : suc t ≡ 1 + t = omega arith in
+    ap (λ (k : ℕ). m % 2 ^ k) one ∙ mod-pow-add m 1 t ∙ rw (here, rest, zero-mul) refl
+
+pub reduced_twos : (m j t : ℕ) → 0 < m → m < 2 ^ 64 → t ≡ min (trailing_zeros w64 m) j → Reduced m j (m / 2 ^ t) (j - t)
+reduced_twos m j t some fits e =
+    let z = bit_at-trailing_zeros w64 m some fits in
+    let below : m % 2 ^ t ≡ 0 = zeros_below m t (λ i l. z.2 i (omega arith)) in
+    reduced_by m j t (omega arith)
+    (⊎_elim (λ l. inr (lowest l)) (λ l. inl (omega arith)) (lt_or_ge t j))
+    (let s = shr_split m t in omega arith)
   where
-    halved : (a x p q : ℕ) → n ≡ 2 * a → x ≡ a * p → n * p ≡ m * (2 * q) → x ≡ m * q
-    halved a x p q ea ex eq = omega (arith, two_times a p, two_times' m q, rw ea at eq)
-      where
-        two_times : (a p : ℕ) → 2 * a * p ≡ 2 * (a * p)
-        two_times a p = omega arith
-
-        two_times' : (m q : ℕ) → m * (2 * q) ≡ 2 * (m * q)
-        two_times' m q = omega arith
-
-pub reduced_odd : (m j n k : ℕ) → n * 2 ^ j ≡ m * 2 ^ k → k ≤ j → n % 2 ≡ 1 → Reduced m j n k
-reduced_odd m j n k e h odd = record { same = e; within = h; least = inr odd }
-
-pub reduced_whole : (m j n k : ℕ) → n * 2 ^ j ≡ m * 2 ^ k → k ≤ j → k ≤ 0 → Reduced m j n k
-reduced_whole m j n k e h z = record { same = e; within = h; least = inl (omega arith) }
+    lowest : t < j → m / 2 ^ t % 2 ≡ 1
+    lowest l =
+        let whole : t ≡ trailing_zeros w64 m = omega arith in
+        rw whole (bit_at-trailing_zeros w64 m some fits).1
 
 -- ---- There is one answer
 
@@ -72,16 +88,17 @@ digit_most rest unit h =
     omega (arith, (div-lt_iff_lt-mul k).1 l)
 
 -- one decimal more, and the rest
-pub decimal_again : (out out' w : List ℕ) (i rest unit d digit rest' : ℕ) → spread 1 out i (decimals_of rest unit d) ≡ w → 0 < d → digit ≡ 10 * rest / unit → rest' ≡ 10 * rest % unit
-    → out' ≡ set out i (48 + digit) → spread 1 out' (i + 1) (decimals_of rest' unit (d - 1)) ≡ w
-unfolding spread decimals_of
-decimal_again out out' w i rest unit zero digit rest' e h ed er eo = absurd (not-suc-le-zero h)
-decimal_again out out' w i rest unit (suc d) digit rest' e h ed er eo = let k : suc d - 1 ≡ d = omega arith in rw (eo, ed, er, k) e
+pub decimal_next : (out w : List ℕ) (i n rest unit : ℕ) → take i out ++ decimals_of rest unit (n - i) ≡ w → length out ≡ n → i < n
+    → take (i + 1) (set out i (48 + 10 * rest / unit)) ++ decimals_of (10 * rest % unit) unit (n - (i + 1)) ≡ w
+unfolding decimals_of
+decimal_next out w i n rest unit e l h =
+    let k : n - i ≡ suc (n - suc i) = omega arith in
+    let within : i < length out = omega arith in
+    rw (add-one, take-suc-set, append_assoc) (rw k at e)
 
-pub decimal_end : (out w : List ℕ) (i rest unit d : ℕ) → spread 1 out i (decimals_of rest unit d) ≡ w → d ≤ 0 → out ≡ w
-unfolding spread decimals_of
-decimal_end out w i rest unit zero e h = e
-decimal_end out w i rest unit (suc d) e h = absurd (not-suc-le-zero h)
-
-pub remainder_less : (rest unit : ℕ) → rest < unit → 10 * rest % unit < unit
-remainder_less rest unit h = mod-lt (10 * rest) (omega arith)
+pub decimal_end : (out w : List ℕ) (i n rest unit : ℕ) → take i out ++ decimals_of rest unit (n - i) ≡ w → length out ≡ n → i ≤ n → n ≤ i → out ≡ w
+unfolding decimals_of
+decimal_end out w i n rest unit e l h g =
+    let k : n - i ≡ 0 = omega arith in
+    let all : i ≡ length out = omega arith in
+    rw (k, append-nil, all, take-length) at e

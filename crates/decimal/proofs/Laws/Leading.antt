@@ -1,18 +1,16 @@
 -- The laws of `specs/Leading.antt` and `specs/Inner.antt`.
 use Prim.Native.Nat.{ℕ, zero, suc, ◌+◌, ◌-◌, ◌*◌, ◌/◌, ◌%◌, ◌^◌, ◌<◌, ◌≤◌}
-use mathlib.Core.List.{List, [], ◌∷◌, ◌++◌, append-nil}
+use mathlib.Core.List.{List, [], ◌∷◌, ◌++◌, append-nil, append_assoc}
 use mathlib.Core.Logic.{inl, inr}
 use mathlib.Core.Path.{◌≡◌, refl, sym, ap, ◌∙◌}
 use native.Mathlib.Nat.{not-suc-le-zero, zero-add, add-zero, mul-zero, mul-one, mul_assoc, pow-zero, pow-suc, pow-succ', div-div-eq-div-mul, div-eq_of_lt, lt_of_le_of_lt, le_trans, le_of_lt, mul-le-mul_left, mul-le-mul_right, pow-le-pow_right}
 use native.Mathlib.Numerals.{add-one}
 use native.Mathlib.Omega.{arith}
 use lib.Dec.{lit<}
-use lib.ListN.{length, get_or, set, drop, drop_of_length-le}
-use lib.Seq.{drop-cons, drop-set-lt, drop-length}
-use Rattle.steps.specs.Place.{spread}
-use Rattle.steps.proofs.Laws.Place.{spread_front}
+use lib.ListN.{length, get_or, take, drop, set, drop_of_length-le}
+use lib.Seq.{drop-cons, drop-set-lt, take-length, take-suc-set}
 use Rattle.decimal.specs.Leading.{Short, Leads}
-use Rattle.decimal.specs.Inner.{digits_of, carried, carried_times}
+use Rattle.decimal.specs.Inner.{digits_of, carried}
 
 -- ---- Digits times b, and c more
 
@@ -37,52 +35,30 @@ unfolding carried digits_of
 carried_none c [] = refl
 carried_none c (d ∷ ds) = rw (mul-zero, zero-add) (rw (carried_none (c / 10) ds))
 
-pub carry_most : (d b c : ℕ) → d < 256 → b ≤ 5 → c < 16777216 → d * b + c < 20000000
-carry_most d b c hd hb hc =
-    let e : d ≤ 255 = omega arith in
-    omega (arith, mul-le-mul_right b e, mul-le-mul_left 255 hb)
-
 -- ---- Stored one by one
 
-length_carried : (b c : ℕ) (ds : List ℕ) → length (carried b c ds) ≡ length ds
+pub carry_next : (ds w : List ℕ) (i b c d L : ℕ) → take i ds ++ carried b c (drop i ds) ≡ w → length ds ≡ L → i < L → d ≡ get_or ds i 0
+    → take (i + 1) (set ds i ((d * b + c) % 10)) ++ carried b ((d * b + c) / 10) (drop (i + 1) (set ds i ((d * b + c) % 10))) ≡ w
 unfolding carried
-length_carried b c [] = refl
-length_carried b c (d ∷ ds) = ap suc (length_carried b ((d * b + c) / 10) ds)
+carry_next ds w i b c d L e l h ed =
+    let within : i < length ds = omega arith in
+    let below : i < suc i = omega arith in
+    rw (add-one, take-suc-set, append_assoc, drop-set-lt) (rw ed (rw (drop-cons ds i 0) at e))
 
-pub carry_start : (b c : ℕ) (ds : List ℕ) → spread 1 ds 0 (carried b c (drop 0 ds)) ≡ carried b c ds
-carry_start b c ds =
-    let n = length_carried b c ds in
-    spread_front ds (carried b c ds) (omega arith) ∙ ap (λ (k : ℕ). carried b c ds ++ drop k ds) n ∙ ap (λ (l : List ℕ). carried b c ds ++ l) (drop-length ds) ∙ append-nil (carried b c ds)
-
-pub carry_again : (ds ds' w : List ℕ) (i b c n left L : ℕ) → spread 1 ds i (carried b c (drop i ds)) ≡ w → length ds ≡ L → i + left ≡ L → 0 < left → n ≡ get_or ds i 0 * b + c → ds' ≡ set ds i (n % 10)
-    → spread 1 ds' (i + 1) (carried b (n / 10) (drop (i + 1) ds')) ≡ w
-unfolding spread carried
-carry_again ds ds' w i b c n left L e len l some en es =
-    let h : i < length ds = omega arith in
-    let x : ℕ = (get_or ds i 0 * b + c) % 10 in
-    let rest : drop (i + 1) (set ds i x) ≡ drop (suc i) ds = ap (λ (k : ℕ). drop k (set ds i x)) (add-one i) ∙ drop-set-lt (suc i) ds i x (omega arith) in
-    rw (es, en) (ap (λ (l : List ℕ). spread 1 (set ds i x) (i + 1) (carried b ((get_or ds i 0 * b + c) / 10) l)) rest ∙ (rw (drop-cons ds i 0) at e))
-
-pub carry_end : (ds w : List ℕ) (i b c left L : ℕ) → spread 1 ds i (carried b c (drop i ds)) ≡ w → length ds ≡ L → i + left ≡ L → left ≤ 0 → ds ≡ w
-unfolding spread carried
-carry_end ds w i b c left L e len l h = let past : length ds ≤ i = omega arith in rw (drop_of_length-le ds past) at e
+pub carry_end : (ds w : List ℕ) (i b c L : ℕ) → take i ds ++ carried b c (drop i ds) ≡ w → length ds ≡ L → i ≤ L → L ≤ i → ds ≡ w
+unfolding carried
+carry_end ds w i b c L e l h g =
+    let all : i ≡ length ds = omega arith in
+    let past : length ds ≤ i = omega arith in
+    rw (drop_of_length-le ds past, append-nil, all, take-length) at e
 
 -- ---- A power
 
-pub times_digits : (b k L n : ℕ) → carried_times b k (digits_of L n) ≡ digits_of L (n * b ^ k)
-unfolding carried_times
-times_digits b zero L n = ap (digits_of L) (sym (ap (λ (z : ℕ). n * z) (pow-zero b) ∙ mul-one n))
-times_digits b (suc k) L n = ap (carried_times b k) (carried_digits b 0 L n ∙ rw add-zero) ∙ times_digits b k L (n * b) ∙ rw (pow-succ', mul_assoc)
+pub power_none : (m b : ℕ) (lent ds : List ℕ) → length lent ≡ 112 → ds ≡ carried 0 m lent → ds ≡ digits_of 112 (m * b ^ 0)
+power_none m b lent ds len e = rw (pow-zero, mul-one) (e ∙ carried_none m lent ∙ ap (λ (L : ℕ). digits_of L m) len)
 
-pub times_again : (b left : ℕ) (ds ds' w : List ℕ) → carried_times b left ds ≡ w → 0 < left → ds' ≡ carried b 0 ds → carried_times b (left - 1) ds' ≡ w
-unfolding carried_times
-times_again b zero ds ds' w e h es = absurd (not-suc-le-zero h)
-times_again b (suc left) ds ds' w e h es = let z : suc left - 1 ≡ left = omega arith in rw (z, es) e
-
-pub times_end : (b left : ℕ) (ds w : List ℕ) → carried_times b left ds ≡ w → left ≤ 0 → ds ≡ w
-unfolding carried_times
-times_end b zero ds w e h = e
-times_end b (suc left) ds w e h = absurd (not-suc-le-zero h)
+pub power_more : (m b k : ℕ) (ds ds' : List ℕ) → ds ≡ digits_of 112 (m * b ^ k) → ds' ≡ carried b 0 ds → ds' ≡ digits_of 112 (m * b ^ (k + 1))
+power_more m b k ds ds' e es = rw (es, e) (carried_digits b 0 112 (m * b ^ k) ∙ ap (digits_of 112) (rw (add-zero, add-one, pow-suc, mul_assoc) refl))
 
 -- ---- The first digits, from the highest down
 
@@ -123,11 +99,6 @@ module _ (ds : List ℕ) (lead i : ℕ) (f : From ds lead i) where
 
   pub from_all : i ≤ 0 → (n : ℕ) → ds ≡ digits_of 112 n → Short n → Leads n lead i
   from_all h n e b = let a = f.each n e b in record { is = a.0; few = a.1; enough = inl (omega arith) }
-
-pub power_leads : (m b k lead more : ℕ) (lent once all : List ℕ) → length lent ≡ 112 → once ≡ carried 0 m lent → all ≡ carried_times b k once
-    → ((n : ℕ) → all ≡ digits_of 112 n → Short n → Leads n lead more) → Short (m * b ^ k) → Leads (m * b ^ k) lead more
-power_leads m b k lead more lent once all len one is leads short =
-    leads (m * b ^ k) (is ∙ ap (carried_times b k) (one ∙ carried_none m lent ∙ ap (λ (L : ℕ). digits_of L m) len) ∙ times_digits b k 112 m) short
 
 -- ---- What has at most 112 digits
 

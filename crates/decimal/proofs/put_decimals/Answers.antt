@@ -1,15 +1,10 @@
--- `decimal::put_decimals` meets its contract. The invariant: storing what is left gives what is wanted.
-use borrow.Author.Rules.{rules}
-use mathlib.Core.Path.{refl}
+-- `decimal::put_decimals` meets its contract.
 use native.Mathlib.Omega.{arith}
-use Rattle.decimal.proofs.Laws.Decimal.{decimal_again, decimal_end}
+use Rattle.decimal.proofs.Laws.Decimal.{decimal_next, decimal_end}
 use Rattle.decimal.proofs.put_decimals.Goals as goal
 
-pub loop-left-init : goal.loop-left-init
-loop-left-init c = (search rules, search rules, search rules, refl)
-
-pub loop-left-preserved : goal.loop-left-preserved
-loop-left-preserved c = (search rules, omega arith, search rules, search decimal_again)
+pub loop-decimal-preserved : goal.loop-decimal-preserved
+loop-decimal-preserved c = (omega arith, search decimal_next)
 
 pub returns : goal.returns
 returns c = search decimal_end

@@ -1,13 +1,10 @@
--- `decimal::put_decimals` meets its contract. The invariant: storing what is left gives what is wanted.
+-- `decimal::put_decimals` meets its contract. The invariant: what is stored, and the decimals that are left, are what is wanted.
+use mathlib.Core.List.{◌++◌}
 use mathlib.Core.Path.{◌≡◌}
-use Prim.Native.Nat.{◌+◌, ◌<◌, ◌≤◌}
-use lib.ListN.{length}
-use Rattle.steps.specs.Place.{spread}
+use Prim.Native.Nat.{◌-◌, ◌<◌}
+use lib.ListN.{length, take}
 use Rattle.decimal.specs.Decimal.{decimals_of}
 use Rattle.decimal.proofs.put_decimals.Given as goal
 
-abbrev pub invariant-loop-left : goal.invariant-loop-left
-invariant-loop-left l = (l.n < l.unit) × (l.i + l.left ≤ length l.initial.out) × (length l.out ≡ length l.initial.out) × (spread 1 l.out l.i (decimals_of l.n l.unit l.left) ≡ spread 1 l.initial.out 0 (decimals_of l.rest l.unit l.d))
-
-abbrev pub decreases-loop-left : goal.decreases-loop-left
-decreases-loop-left l = l.left
+abbrev pub invariant-loop-decimal : goal.invariant-loop-decimal
+invariant-loop-decimal l = (l.rest < l.unit) × (take l.decimal-index l.out ++ decimals_of l.rest l.unit (length l.initial.out - l.decimal-index) ≡ decimals_of l.fn.rest l.unit (length l.initial.out))

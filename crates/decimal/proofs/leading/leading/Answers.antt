@@ -1,6 +1,7 @@
 -- `decimal::leading::leading` meets its contract.
-use Rattle.decimal.proofs.Laws.Leading.{power_leads}
+use mathlib.Core.Path.{refl}
+use Rattle.decimal.proofs.Laws.Leading.{power_none}
 use Rattle.decimal.proofs.leading.leading.Goals as goal
 
-pub returns-clause-leads : goal.returns-clause-leads
-returns-clause-leads c = search power_leads
+pub loop-init : goal.loop-init
+loop-init c = power_none _ _ _ _ refl c.times.ensures
