@@ -1,34 +1,24 @@
 // A flat part by the crate reading.
-ghost use Rattle.std.specs.Prelude.{◌≡◌, ◌+◌, ◌*◌, ◌≤◌, length};
-ghost use Rattle.flat_read.specs.Flat.{crate_flat, flat_of};
+ghost use Rattle.std.specs.Prelude.{◌≡◌, ℕ, ◌+◌, ◌*◌, ◌-◌, ◌≤◌, ◌<◌, length};
+ghost use Rattle.flat_read.specs.Flat.{crate_flat};
 
-use steps::{Taken, refusal};
+use crate::part::{Ahead, Pixels};
+use steps::refusal::Reason;
 
-// The flat part that starts at byte start of the store.
-pub(crate) fn read(src: &[u8], at: usize, store: &mut [u8], start: usize, wanted: usize) -> Taken
-    requires { start + 4 * wanted ≤ length store.old }
-    ensures { (result, store.new) ≡ flat_of crate_flat src.now at store.old start wanted }
-{
-    let mut p = at;
-    let mut place = start;
-    let mut left = wanted;
-    while 0 < left {
-        let there = steps::less(src.len(), p);
-        if there < 4 {
-            steps::put_bytes(src, p, store, place, there);
-            return Taken::Fault {
-                number: refusal::BYTES_END,
-            };
-        }
-        steps::put_bytes(src, p, store, place, 4);
-        if crate::is_repeat(src, p) {
-            return Taken::Fault {
-                number: refusal::OLD_RUN,
-            };
-        }
-        p += 4;
-        place += 4;
-        left -= 1;
+// Each byte is stored as it is read.
+pub(crate) struct CratePixels;
+
+impl Pixels for CratePixels {
+    ghost rule = { crate_flat };
+
+    #[tactic(auto, using(crate::proofs::Laws::Pixels::crate_missing))]
+    fn missing(src: &[u8], p: usize, store: &mut [u8], place: usize) {
+        steps::put_bytes(src, p, store, place, src.len().saturating_sub(p));
     }
-    Taken::Done { next: p }
+
+    #[tactic(auto, using(crate::proofs::Laws::Pixels::crate_ones))]
+    fn ones(src: &[u8], p: usize, store: &mut [u8], ahead: Ahead) -> Result<Ahead, Reason> {
+        steps::put_bytes(src, p, store, ahead.place, 4);
+        Err(Reason::OldRun)
+    }
 }

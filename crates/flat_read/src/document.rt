@@ -1,39 +1,26 @@
 // A flat part by the document reading.
-ghost use Rattle.std.specs.Prelude.{[], ◌∷◌, ◌≡◌, ◌+◌, ◌*◌, ◌^◌, ◌≤◌, ◌<◌, min, length};
+ghost use Rattle.std.specs.Prelude.{[], ◌∷◌, ◌≡◌, ℕ, ◌+◌, ◌*◌, ◌-◌, ◌^◌, ◌≤◌, ◌<◌, min, length};
 ghost use Rattle.steps.specs.Place.{spread};
-ghost use Rattle.flat_read.specs.Flat.{flat, copies_to, document_flat, document_ones, flat_turn, flat_of};
-ghost use Rattle.flat_read.specs.Inner.{turn_of, Within};
+ghost use Rattle.flat_read.specs.Flat.{copies_to, document_flat};
 
-use steps::{Taken, refusal};
-
-// What a pixel of the part leads to: the place in the store, how many pixels are wanted and how many repeats stand directly ahead after it; or a refusal.
-#[derive(Clone, Copy)]
-pub(crate) enum Step {
-    More {
-        place: usize,
-        left: usize,
-        repeats: usize,
-    },
-    Fault {
-        number: u8,
-    },
-}
+use crate::part::{Ahead, Pixels};
+use steps::refusal::Reason;
 
 // n times 256^k, and 65,536 where that is more.
+#[tactic(auto, using(crate::proofs::Laws::Document::times_none, crate::proofs::Laws::Document::times_once, crate::proofs::Laws::Document::times_256, crate::proofs::Laws::Document::times_most))]
 fn times(n: u8, k: usize) -> usize
     ensures { result ≡ min (n * 256 ^ k) 65536 }
 {
-    if n == 0 {
-        return 0;
-    }
-    match k {
-        0 => n as usize,
-        1 => n as usize * 256,
+    match (n, k) {
+        (0, _) => 0,
+        (_, 0) => usize::from(n),
+        (_, 1) => usize::from(n) * 256,
         _ => 65536,
     }
 }
 
 // Four bytes, from a place on.
+#[tactic(auto, using(crate::proofs::Laws::Document::put_four))]
 fn put_four(store: &mut [u8], i: usize, r: u8, g: u8, b: u8, e: u8)
     requires { i + 4 ≤ length store.old }
     ensures { store.new ≡ spread 1 store.old i (r ∷ g ∷ b ∷ e ∷ []) }
@@ -45,6 +32,7 @@ fn put_four(store: &mut [u8], i: usize, r: u8, g: u8, b: u8, e: u8)
 }
 
 // n copies of the pixel before a place, from that place on.
+#[tactic(auto, using(steps::proofs::Laws::Place::run_start, crate::proofs::Laws::Document::copy_next))]
 fn put_copies(store: &mut [u8], place: usize, n: usize)
     requires { (4 ≤ place) × (place + 4 * n ≤ length store.old) }
     ensures { store.new ≡ copies_to store.old place n }
@@ -53,88 +41,34 @@ fn put_copies(store: &mut [u8], place: usize, n: usize)
     let g = store[place - 3];
     let b = store[place - 2];
     let e = store[place - 1];
-    let mut i = place;
-    let mut left = n;
-    while 0 < left {
-        put_four(store, i, r, g, b, e);
-        i += 4;
-        left -= 1;
+    for k in 0..n {
+        put_four(store, place + 4 * k, r, g, b, e);
     }
 }
 
-// A pixel 1, 1, 1, n.
-fn repeat(src: &[u8], p: usize, store: &mut [u8], place: usize, left: usize, repeats: usize) -> Step
-    requires { (p + 4 ≤ length src.now) × (place + 4 * left ≤ length store.old) × (left ≤ 65535) × (repeats ≤ p) }
-    ensures store_after { turn_of p result store.new ≡ document_ones src.now (flat p place left repeats store.old) }
-    ensures within { Within (length store.old) p result }
-{
-    if place < 4 {
-        return Step::Fault {
-            number: refusal::BROKEN_ROW,
-        };
-    }
-    let n = times(src[p + 3], repeats);
-    if left < n {
-        return Step::Fault {
-            number: refusal::BROKEN_ROW,
-        };
-    }
-    put_copies(store, place, n);
-    Step::More {
-        place: place + 4 * n,
-        left: left - n,
-        repeats: repeats + 1,
-    }
-}
+// Whole pixels alone are stored, and a pixel 1, 1, 1, n repeats the one before it.
+pub(crate) struct DocumentPixels;
 
-// The next pixel of the part, whose four bytes are there.
-fn pixel(src: &[u8], p: usize, store: &mut [u8], place: usize, left: usize, repeats: usize) -> Step
-    requires { (p + 4 ≤ length src.now) × (0 < left) × (place + 4 * left ≤ length store.old) × (left ≤ 65535) × (repeats ≤ p) }
-    ensures store_after { turn_of p result store.new ≡ flat_turn document_flat src.now (flat p place left repeats store.old) }
-    ensures within { Within (length store.old) p result }
-{
-    if crate::is_repeat(src, p) {
-        return repeat(src, p, store, place, left, repeats);
-    }
-    steps::put_bytes(src, p, store, place, 4);
-    Step::More {
-        place: place + 4,
-        left: left - 1,
-        repeats: 0,
-    }
-}
+impl Pixels for DocumentPixels {
+    ghost rule = { document_flat };
 
-// The flat part that starts at byte start of the store.
-pub(crate) fn read(src: &[u8], at: usize, store: &mut [u8], start: usize, wanted: usize) -> Taken
-    requires { (start + 4 * wanted ≤ length store.old) × (wanted ≤ 65535) }
-    ensures { (result, store.new) ≡ flat_of document_flat src.now at store.old start wanted }
-{
-    let mut p = at;
-    let mut place = start;
-    let mut left = wanted;
-    let mut repeats = 0;
-    while 0 < left {
-        if steps::less(src.len(), p) < 4 {
-            return Taken::Fault {
-                number: refusal::BYTES_END,
-            };
+    #[tactic(auto, unfolding(crate::specs::Flat::document_flat))]
+    fn missing(_src: &[u8], _p: usize, _store: &mut [u8], _place: usize) {}
+
+    #[tactic(auto, using(crate::proofs::Laws::Pixels::ones_first, crate::proofs::Laws::Pixels::ones_past, crate::proofs::Laws::Pixels::ones_copies))]
+    fn ones(src: &[u8], p: usize, store: &mut [u8], ahead: Ahead) -> Result<Ahead, Reason> {
+        if ahead.place < 4 {
+            return Err(Reason::BrokenRow);
         }
-        let s = pixel(src, p, store, place, left, repeats);
-        match s {
-            Step::More {
-                place: q,
-                left: n,
-                repeats: k,
-            } => {
-                place = q;
-                left = n;
-                repeats = k;
-            }
-            Step::Fault { number } => {
-                return Taken::Fault { number };
-            }
+        let n = times(src[p + 3], ahead.repeats);
+        if ahead.wanted < n {
+            return Err(Reason::BrokenRow);
         }
-        p += 4;
+        put_copies(store, ahead.place, n);
+        Ok(Ahead {
+            place: ahead.place + 4 * n,
+            wanted: ahead.wanted - n,
+            repeats: ahead.repeats + 1,
+        })
     }
-    Taken::Done { next: p }
 }

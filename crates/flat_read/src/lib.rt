@@ -3,27 +3,17 @@
 
 mod crate_part;
 mod document;
+mod part;
 
 ghost use Rattle.std.specs.Prelude.{◌≡◌, ◌+◌, ◌*◌, ◌≤◌, length};
-ghost use Rattle.flat_read.specs.Flat.{is_repeat, flat_rule, flat_of};
+ghost use Rattle.flat_read.specs.Flat.{flat_rule, flat_of};
 
+use crate_part::CratePixels;
+use document::DocumentPixels;
 use steps::{Reading, Taken};
 
-// Whether the pixel at p starts 1, 1, 1.
-fn is_repeat(src: &[u8], p: usize) -> bool
-    requires { p + 4 ≤ length src.now }
-    ensures { result ≡ is_repeat src.now p }
-{
-    if src[p] != 1 {
-        return false;
-    }
-    if src[p + 1] != 1 {
-        return false;
-    }
-    src[p + 2] == 1
-}
-
 // The flat part that starts at byte start of the store. No row is wider than 65,535.
+#[tactic(auto, using(crate::proofs::Laws::Document::by_crate, crate::proofs::Laws::Document::by_document))]
 pub fn read_flat(
     reading: Reading,
     src: &[u8],
@@ -36,7 +26,7 @@ pub fn read_flat(
     ensures { (result, store.new) ≡ flat_of (flat_rule reading) src.now at store.old start wanted }
 {
     match reading {
-        Reading::Crate => crate_part::read(src, at, store, start, wanted),
-        Reading::Document => document::read(src, at, store, start, wanted),
+        Reading::Crate => part::read::<CratePixels>(src, at, store, start, wanted),
+        Reading::Document => part::read::<DocumentPixels>(src, at, store, start, wanted),
     }
 }

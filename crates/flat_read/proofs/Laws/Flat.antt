@@ -2,37 +2,26 @@
 use Prim.Native.Nat.{ℕ, ◌+◌, ◌-◌, ◌*◌, min, ◌<◌, ◌≤◌}
 use native.Mathlib.Omega.{arith}
 use mathlib.Core.List.{List}
-use mathlib.Core.Bool.{Bool, true, false}
-use mathlib.Core.Path.{◌≡◌, refl, sym, ap, subst, ◌∙◌}
-use borrow.Author.Tests.{lt-ltb, le-ltb, ltb-true, ltb-false, eq-eqb, ne_eqb}
-use lib.ListN.{length, get_or}
-use lib.Dec.{ltb, eqb}
+use mathlib.Core.Bool.{true, false}
+use mathlib.Core.Path.{◌≡◌, sym, ap, subst, ◌∙◌}
+use borrow.Author.Tests.{lt-ltb, le-ltb, ltb-true, ltb-false}
+use lib.ListN.{length}
+use lib.Dec.{ltb}
 use Rattle.steps.specs.Loop.{Turn, more, halt, run}
 use Rattle.steps.specs.Place.{bytes_from, spread}
-use Rattle.steps.proofs.Laws.Loop.{Runs, runs_start, runs_more, runs_halt}
+use Rattle.steps.proofs.Laws.Loop.{Runs, runs_start, runs_halt}
 use Rattle.steps.proofs.Laws.Order.{by_order}
 use Rattle.steps.proofs.Laws.Taken.{never_both}
 use Rattle.steps.proofs.Laws.Turns.{by_test, Falls, Leads, never_out, run_keeps}
 use Rattle.steps.specs.Answer.{Taken}
 use Rattle.std.specs.Prelude.{Ok, Err}
-use Rattle.steps.specs.declared.refusal.Reason.TheVariants.{BytesEnd, OldRun}
+use Rattle.steps.specs.declared.refusal.Reason.{Reason}
+use Rattle.steps.specs.declared.refusal.Reason.TheVariants.{BytesEnd}
 use Rattle.steps.specs.declared.Reading.{Reading}
 use Rattle.steps.specs.declared.Reading.TheVariants.{Crate, Document}
 use Rattle.flat_read.specs.Flat.{Flat, FlatRule, flat, crate_flat, document_ones, document_flat, times_of, flat_rule, flat_of, flat_out, flat_turn, four_to, is_repeat, ordinary, stored}
 
 -- ---- A pixel
-
-pub repeat_not_0 : (src : List ℕ) (at : ℕ) → (get_or src at 0 ≡ 1 → ⊥) → false ≡ is_repeat src at
-unfolding is_repeat
-repeat_not_0 src at h = simp (ne_eqb (get_or src at 0) 1 h)
-
-pub repeat_not_1 : (src : List ℕ) (at : ℕ) → get_or src at 0 ≡ 1 → (get_or src (at + 1) 0 ≡ 1 → ⊥) → false ≡ is_repeat src at
-unfolding is_repeat
-repeat_not_1 src at h k = simp (eq-eqb (get_or src at 0) 1 h, ne_eqb (get_or src (at + 1) 0) 1 k)
-
-pub repeat_by_2 : (src : List ℕ) (at : ℕ) → get_or src at 0 ≡ 1 → get_or src (at + 1) 0 ≡ 1 → eqb (get_or src (at + 2) 0) 1 ≡ is_repeat src at
-unfolding is_repeat
-repeat_by_2 src at h k = simp (eq-eqb (get_or src at 0) 1 h, eq-eqb (get_or src (at + 1) 0) 1 k)
 
 -- one whose four bytes are there, stored
 pub four_there : (src : List ℕ) (at : ℕ) (store : List ℕ) (place : ℕ) → at + 4 ≤ length src → four_to src at store place ≡ spread 1 store place (bytes_from src at 4)
@@ -59,32 +48,6 @@ module _ (rule : FlatRule) (src : List ℕ) (p place wanted repeats : ℕ) (stor
     pub flat_missing : length src < p + 4 → (Err BytesEnd, rule.missing src (flat p place wanted repeats store)) ≡ a
     unfolding flat_turn
     flat_missing l = runs_halt r (simp (lt-ltb 0 wanted h, lt-ltb (length src) (p + 4) l))
-
-    pub flat_ordinary : (x : Flat) → p + 4 ≤ length src → is_repeat src p ≡ false → x ≡ ordinary (stored src (flat p place wanted repeats store))
-        → Runs (flat_turn rule src) flat_out (length src - (p + 4)) x a
-    unfolding flat_turn
-    flat_ordinary x l e ex = rw ex (runs_more r (simp (lt-ltb 0 wanted h, le-ltb (length src) (p + 4) l, e)) (omega arith))
-
--- the same by the crate reading
-module _ (src : List ℕ) (p place wanted : ℕ) (store : List ℕ) (a : Taken × List ℕ)
-    (r : Runs (flat_turn crate_flat src) flat_out (length src - p) (flat p place wanted 0 store) a) (h : 0 < wanted) (n : ℕ) (en : n ≡ length src - p) where
-  pub flat_short : (store' : List ℕ) → n < 4 → store' ≡ spread 1 store place (bytes_from src p n) → (Err BytesEnd, store') ≡ a
-  unfolding crate_flat four_to
-  flat_short store' l es =
-      let m : min 4 (length src - p) ≡ n = omega arith in
-      rw (es, ← m) (flat_missing crate_flat src p place wanted 0 store a r h (omega arith))
-
-  module _ (store' : List ℕ) (l : 4 ≤ n) (es : store' ≡ spread 1 store place (bytes_from src p 4)) (b : Bool) (eb : b ≡ is_repeat src p) where
-    pub flat_ones : b ≡ true → (Err OldRun, store') ≡ a
-    unfolding flat_turn crate_flat
-    flat_ones t =
-        let l' : p + 4 ≤ length src = omega arith in
-        rw (es, ← four_there src p store place l') (runs_halt r (simp (lt-ltb 0 wanted h, le-ltb (length src) (p + 4) l', sym eb ∙ t)))
-
-    pub flat_again : b ≡ false → Runs (flat_turn crate_flat src) flat_out (length src - (p + 4)) (flat (p + 4) (place + 4) (wanted - 1) 0 store') a
-    flat_again t =
-        let l' : p + 4 ≤ length src = omega arith in
-        rw (es, ← four_there src p store place l') (flat_ordinary crate_flat src p place wanted 0 store a r h _ l' (sym eb ∙ t) refl)
 
 -- a turn, case by case
 pub flat_cases : (rule : FlatRule) (src : List ℕ) (x : Flat) (L : Turn Flat (Taken × List ℕ) → Type 0)
@@ -142,7 +105,7 @@ NoRepeat px p n = (i : ℕ) → i < n → is_repeat px (p + 4 * i) ≡ false
 pub record Plain (src : List ℕ) (at wanted : ℕ) (a : Taken × List ℕ) : Type 0 where
   pub upto : (next : ℕ) → a.0 ≡ Ok next → (next ≡ at + 4 * wanted) × (0 < wanted → next ≤ length src) × NoRepeat src at wanted
 
-plain_fault : {src : List ℕ} {at wanted reason : ℕ} {s : List ℕ} → Plain src at wanted (Err reason, s)
+plain_fault : {src : List ℕ} {at wanted : ℕ} {reason : Reason} {s : List ℕ} → Plain src at wanted (Err reason, s)
 plain_fault {reason = reason} = record { upto = λ next e. never_both next reason (sym e) }
 
 pub crate_plain : (src : List ℕ) (at : ℕ) (store : List ℕ) (start wanted : ℕ) → Plain src at wanted (flat_of crate_flat src at store start wanted)

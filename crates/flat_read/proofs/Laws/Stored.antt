@@ -16,6 +16,7 @@ use Rattle.steps.proofs.Laws.Taken.{never_both}
 use Rattle.steps.proofs.Laws.Turns.{by_test, Leads, run_keeps}
 use Rattle.steps.specs.Answer.{Taken}
 use Rattle.std.specs.Prelude.{Ok, Err}
+use Rattle.steps.specs.declared.refusal.Reason.{Reason}
 use Rattle.steps.specs.declared.Reading.{Reading}
 use Rattle.steps.specs.declared.Reading.TheVariants.{Crate, Document}
 use Rattle.flat_read.specs.Flat.{Flat, flat, copies, copies_to, times_of, crate_flat, document_ones, document_flat, flat_rule, flat_of, flat_out, flat_turn, is_repeat, ordinary, stored, repeated}
@@ -112,7 +113,7 @@ module _ (src : List ℕ) (all : ℕ) (x : Flat) (c : Clean all x) (some : 0 < x
             ∙ alone_pixel x.store (x.place - 4) ∙ ap (is_repeat x.store) last ∙ c.none (k - 1) (omega (arith, c.place))));
       }
 
-fault_stored : {all reason : ℕ} {s : List ℕ} → Stored all (Err reason, s)
+fault_stored : {all : ℕ} {reason : Reason} {s : List ℕ} → Stored all (Err reason, s)
 fault_stored {reason = reason} = record { none = λ next e. never_both next reason (sym e) }
 
 ones_clean : (reading : Reading) (src : List ℕ) (all : ℕ) (x : Flat) → Clean all x → 0 < x.wanted → Leads (Clean all) (Stored all) ((flat_rule reading).ones src x)
