@@ -1,7 +1,6 @@
 -- The laws of `specs/Leading.antt` and `specs/Inner.antt`.
 use Prim.Native.Nat.{ℕ, zero, suc, ◌+◌, ◌-◌, ◌*◌, ◌/◌, ◌%◌, ◌^◌, ◌<◌, ◌≤◌}
 use mathlib.Core.List.{List, [], ◌∷◌, ◌++◌, append-nil, append_assoc}
-use mathlib.Core.Logic.{inl, inr}
 use mathlib.Core.Path.{◌≡◌, refl, sym, ap, ◌∙◌}
 use native.Mathlib.Nat.{not-suc-le-zero, zero-add, add-zero, mul-zero, mul-one, mul_assoc, pow-zero, pow-suc, pow-succ', div-div-eq-div-mul, div-eq_of_lt, lt_of_le_of_lt, le_trans, le_of_lt, mul-le-mul_left, mul-le-mul_right, pow-le-pow_right}
 use native.Mathlib.Numerals.{add-one}
@@ -9,7 +8,7 @@ use native.Mathlib.Omega.{arith}
 use lib.Dec.{lit<}
 use lib.ListN.{length, get_or, take, drop, set, drop_of_length-le}
 use lib.Seq.{drop-cons, drop-set-lt, take-length, take-suc-set}
-use Rattle.decimal.specs.Leading.{Short, Leads}
+use Rattle.decimal.specs.Leading.{Short}
 use Rattle.decimal.specs.Inner.{digits_of, carried}
 
 -- ---- Digits times b, and c more
@@ -92,13 +91,6 @@ from_more ds lead lead' (suc i) f h l few is = record { each = λ n e b. this n 
         let digit : get_or ds i 0 ≡ n / 10 ^ i % 10 = ap (λ (l : List ℕ). get_or l i 0) e ∙ digit_at 112 n i l in
         let high : lead ≡ n / 10 ^ i / 10 = a.0 ∙ rw pow-suc (sym (div-div-eq-div-mul n (10 ^ i) 10)) in
         rw z (step (n / 10 ^ i) (get_or ds i 0) high digit (rw z at is))
-
-module _ (ds : List ℕ) (lead i : ℕ) (f : From ds lead i) where
-  pub from_leads : 100000000 ≤ lead → (n : ℕ) → ds ≡ digits_of 112 n → Short n → Leads n lead i
-  from_leads h n e b = let a = f.each n e b in record { is = a.0; few = a.1; enough = inr h }
-
-  pub from_all : i ≤ 0 → (n : ℕ) → ds ≡ digits_of 112 n → Short n → Leads n lead i
-  from_all h n e b = let a = f.each n e b in record { is = a.0; few = a.1; enough = inl (omega arith) }
 
 -- ---- What has at most 112 digits
 
