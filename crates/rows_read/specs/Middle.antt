@@ -1,5 +1,6 @@
 -- A row in the middle of bytes: what stands before it and behind it changes nothing but places.
 use Rattle.std.specs.Prelude.{ℕ, ◌+◌, ◌<◌, ◌≤◌, List, ◌++◌, ◌≡◌, length, take}
+use Rattle.steps.specs.declared.refusal.Reason.TheVariants.{BytesEnd}
 use Rattle.steps.specs.Answer.{Taken}
 use Rattle.std.specs.Prelude.{Ok, Err}
 use Rattle.steps.specs.declared.Reading.{Reading}
@@ -9,7 +10,7 @@ use Rattle.rows_read.specs.Row.{RowRule}
 -- An answer in which no missing byte has a part, of n bytes: the next place lies before their end, or the fault is not that bytes are missing.
 abbrev pub Settled : ℕ → Taken → Type 0
 Settled n (Ok next) = next < n
-Settled n (Err reason) = reason ≡ 9 → ⊥
+Settled n (Err reason) = reason ≡ BytesEnd → ⊥
 
 -- an answer where n bytes more stand before
 abbrev pub later : ℕ → Taken → Taken
@@ -35,7 +36,7 @@ Alike n src other = (n ≤ length src) × (n ≤ length other) × (take n other 
 -- Where a reading takes a row whose last bytes are missing, `gap` bytes behind those taken show that none was.
 abbrev pub Rests : ℕ → ℕ → ℕ → Taken → Type 0
 Rests gap long n (Ok next) = (next ≤ n) × (next + gap ≤ long)
-Rests gap long n (Err reason) = (reason ≡ 9 → ⊥) × (long ≤ n)
+Rests gap long n (Err reason) = (reason ≡ BytesEnd → ⊥) × (long ≤ n)
 
 -- one in the crate reading (RULES 4.8); the document reading refuses every missing byte
 abbrev pub gap_of : Reading → ℕ

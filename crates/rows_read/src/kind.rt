@@ -19,14 +19,12 @@ pub(crate) fn is_flat_width(width: usize) -> bool
 }
 
 // Whether the four bytes from a place on, which start with 2, are the mark of four channels.
+#[tactic(auto, unfolding(crate::specs::Row::is_mark))]
 fn is_mark(src: &[u8], at: usize) -> bool
     requires { at + 4 ≤ length src.now }
     ensures { result ≡ is_mark (get_or src.now (at + 1) 0) (get_or src.now (at + 2) 0) }
 {
-    if src[at + 1] != 2 {
-        return false;
-    }
-    src[at + 2] < 128
+    src[at + 1] == 2 && src[at + 2] < 128
 }
 
 // The kind of row at a place of the input.

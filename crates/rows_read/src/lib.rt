@@ -5,18 +5,18 @@ mod kind;
 mod start;
 
 ghost use Rattle.std.specs.Prelude.{◌≡◌, ◌+◌, ◌*◌, ◌≤◌, length};
-ghost use Rattle.steps.specs.declared.Taken.TheVariants.{Fault};
 ghost use Rattle.rows_read.specs.Row.{mark_of, parts_of, rest_by, row_of};
 ghost use Rattle.rows_read.specs.declared.kind.Kind.TheVariants.{Channels};
 
 use kind::Kind;
-use steps::{Reading, Taken, refusal};
+use steps::refusal::Reason;
+use steps::{Reading, Taken};
 
 // The width that the third and the fourth byte of a mark tell.
 fn told(high: u8, low: u8) -> usize
     ensures { result ≡ high * 256 + low }
 {
-    high as usize * 256 + low as usize
+    usize::from(high) * 256 + usize::from(low)
 }
 
 // Whether the mark at a place, whose four bytes are there, will do for rows of that width.
@@ -45,9 +45,7 @@ fn read_marked(
     if is_right(reading, src, at, width) {
         return channels_read::read_channels(reading, src, next, store, width);
     }
-    Taken::Fault {
-        number: refusal::BROKEN_ROW,
-    }
+    Err(Reason::BrokenRow)
 }
 
 // The row from a place of the input on. No row is wider than 65,535.
@@ -61,9 +59,7 @@ pub fn read_row(reading: Reading, src: &[u8], at: usize, store: &mut [u8], width
     let k = kind::kind_at(src, at);
     start::put_start(reading, src, at, store, k);
     match k {
-        Kind::Missing => Taken::Fault {
-            number: refusal::BYTES_END,
-        },
+        Kind::Missing => Err(Reason::BytesEnd),
         Kind::Flat => flat_read::read_flat(reading, src, at, store, 0, width),
         Kind::Pixel { next } => flat_read::read_flat(reading, src, next, store, 4, width - 1),
         Kind::Channels { next } => read_marked(reading, src, at, next, store, width),

@@ -16,7 +16,7 @@ fn put_early(src: &[u8], at: usize, store: &mut [u8])
     if src[at] != 2 {
         return;
     }
-    let there = steps::least(2, src.len() - (at + 1));
+    let there = 2usize.min(src.len() - (at + 1));
     steps::put_bytes(src, at + 1, store, 1, there);
 }
 

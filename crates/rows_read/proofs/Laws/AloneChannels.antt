@@ -9,6 +9,7 @@ use lib.ListN.{length, get_or}
 use Rattle.steps.specs.Loop.{Turn, more, halt, run}
 use Rattle.steps.proofs.Laws.Turns.{Leads, run_keeps, enough_turns}
 use Rattle.steps.proofs.Laws.Machines.{more_halt, halted, same_run}
+use Rattle.steps.specs.declared.refusal.Reason.TheVariants.{BytesEnd}
 use Rattle.steps.specs.Answer.{Taken}
 use Rattle.std.specs.Prelude.{Ok, Err}
 use Rattle.channels_read.specs.Channel.{Chan, chan, Count, span, fault, short, CountRule, channel_turn, channel_out, channel_of, is_run, span_bytes, span_taken, span_of}
@@ -23,7 +24,7 @@ use Rattle.rows_read.proofs.Laws.Alike.{byte_same, bytes_same, Near, near_or, Fi
 -- what a count rests on: so many bytes after it, or a fault that is not that bytes are missing
 abbrev pub CountRests : List ℕ → ℕ → ℕ → Count → Type 0
 CountRests src n at (span k) = at + 1 + span_taken (get_or src at 0) k ≤ n
-CountRests src n at (fault reason) = (reason ≡ 9 → ⊥) × (length src ≤ n)
+CountRests src n at (fault reason) = (reason ≡ BytesEnd → ⊥) × (length src ≤ n)
 CountRests src n at (short k) = ⊥
 
 pub record CountAlone (gap : ℕ) (rule : CountRule) : Type 0 where

@@ -8,6 +8,7 @@ use borrow.Author.Tests.{le-ltb}
 use lib.Dec.{ltb}
 use lib.ListN.{length, get_or}
 use Rattle.steps.proofs.Laws.Order.{by_order}
+use Rattle.steps.specs.declared.refusal.Reason.TheVariants.{BrokenRow, OldRun}
 use Rattle.steps.specs.Answer.{Taken}
 use Rattle.std.specs.Prelude.{Ok, Err}
 use Rattle.steps.proofs.Laws.Taken.{never_both}
@@ -183,15 +184,15 @@ count_alone Document = document_count_alone
 pub crate_flat_alone : FlatAlone crate_flat
 unfolding crate_flat
 crate_flat_alone = record {
-  onward = λ src x h next e. never_both next 25 (sym e);
+  onward = λ src x h next e. never_both next OldRun (sym e);
   same = λ src other n alike x h. rw (four_same src other n alike x.at x.store x.place h);
 }
 
 document_takes_four : (src : List ℕ) (x : Flat) → TakesFour x (document_ones src x)
 unfolding document_ones
 document_takes_four src x =
-    by_test (TakesFour x) (ltb x.place 4) (λ t next e. never_both next 14 (sym e))
-    (λ t. by_test (TakesFour x) (ltb x.wanted (times_of src x)) (λ u next e. never_both next 14 (sym e)) (λ u. omega arith))
+    by_test (TakesFour x) (ltb x.place 4) (λ t next e. never_both next BrokenRow (sym e))
+    (λ t. by_test (TakesFour x) (ltb x.wanted (times_of src x)) (λ u next e. never_both next BrokenRow (sym e)) (λ u. omega arith))
 
 document_ones_same : (src other : List ℕ) (n : ℕ) → Alike n src other → (x : Flat) → x.at + 4 ≤ n → document_ones other x ≡ document_ones src x
 unfolding document_ones

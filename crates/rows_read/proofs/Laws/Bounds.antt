@@ -14,6 +14,7 @@ use Rattle.steps.specs.Place.{bytes_from}
 use Rattle.steps.proofs.Laws.Place.{length_bytes}
 use Rattle.steps.proofs.Laws.Turns.{by_test, Leads, run_keeps}
 use Rattle.steps.proofs.Laws.Taken.{never_both}
+use Rattle.steps.specs.declared.refusal.Reason.{Reason}
 use Rattle.steps.specs.Answer.{Taken}
 use Rattle.std.specs.Prelude.{Ok, Err}
 use Rattle.steps.specs.declared.Reading.{Reading}
@@ -52,7 +53,7 @@ module _ {src : List ℕ} {limit at : ℕ} {store : List ℕ} where
   pub sound_done : {p : ℕ} {s : List ℕ} → On src limit at store p s → Sound src limit at store (Ok p, s)
   sound_done {p} o = record { kept = o.kept; onward = λ next e h. let f : p ≡ next = cc in omega (arith, o.onward h) }
 
-  pub sound_fault : {reason : ℕ} {s : List ℕ} → Kept limit store s → Sound src limit at store (Err reason, s)
+  pub sound_fault : {reason : Reason} {s : List ℕ} → Kept limit store s → Sound src limit at store (Err reason, s)
   sound_fault {reason} k = record { kept = k; onward = λ next e h. never_both next reason (sym e) }
 
   pub sound_on : {p : ℕ} {s : List ℕ} → Sound src limit at store (Ok p, s) → On src limit at store p s

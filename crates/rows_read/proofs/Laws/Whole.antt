@@ -11,6 +11,7 @@ use Rattle.steps.proofs.Laws.Order.{by_order}
 use Rattle.steps.specs.Loop.{Turn, more, run, lead}
 use Rattle.steps.proofs.Laws.Machines.{same_run}
 use Rattle.steps.proofs.Laws.Taken.{fault_done}
+use Rattle.steps.specs.declared.refusal.Reason.TheVariants.{BytesEnd}
 use Rattle.steps.specs.Answer.{Taken}
 use Rattle.std.specs.Prelude.{Ok}
 use Rattle.steps.specs.declared.Reading.TheVariants.{Crate}
@@ -36,10 +37,10 @@ module _ (src : List ℕ) (channel width : ℕ) where
   -- at the end of the bytes it is done already
   at_end : (k : ℕ) (x : Chan) (next : ℕ) (s : List ℕ) → run (channel_turn crate_count src channel width) channel_out k x ≡ (Ok next, s) → length src ≤ x.at → width ≤ x.done
   unfolding run
-  at_end zero x next s e h = fault_done 9 next _ s e
+  at_end zero x next s e h = fault_done BytesEnd next _ s e
   at_end (suc k) x next s e h =
       by_order x.done width
-      (λ l. fault_done 9 next _ s (ap (lead (run (channel_turn crate_count src channel width) channel_out k)) (sym (turn_short crate_count src channel width x l h)) ∙ e))
+      (λ l. fault_done BytesEnd next _ s (ap (lead (run (channel_turn crate_count src channel width) channel_out k)) (sym (turn_short crate_count src channel width x l h)) ∙ e))
       (λ l. l)
 
   -- after some counts from x on stands one of which bytes are missing
@@ -76,13 +77,13 @@ module _ (src : List ℕ) (channel width : ℕ) where
   channel_or : (k : ℕ) (x : Chan) (next : ℕ) (s : List ℕ) → run (channel_turn crate_count src channel width) channel_out k x ≡ (Ok next, s)
       → Cut x ⊎ ((other : List ℕ) → Alike (length src) src other → run (channel_turn crate_count other channel width) channel_out k x ≡ (Ok next, s))
   unfolding run span_of
-  channel_or zero x next s e = fault_done 9 next _ s e
+  channel_or zero x next s e = fault_done BytesEnd next _ s e
   channel_or (suc k) x next s e =
       channel_cases crate_count src channel width x (λ (z : Turn Chan (Taken × List ℕ)). channel_turn crate_count src channel width x ≡ z → lead (run (channel_turn crate_count src channel width) channel_out k) z ≡ (Ok next, s) → Or)
       (λ m d l f et r. spans m d l f et r (channel_or k _ next s r))
-      (λ number d l f et r. fault_done number next _ s r)
-      (λ m d l f et r. fault_done 9 next _ s r)
-      (λ d l et r. fault_done 9 next _ s r)
+      (λ reason d l f et r. fault_done reason next _ s r)
+      (λ m d l f et r. fault_done BytesEnd next _ s r)
+      (λ d l et r. fault_done BytesEnd next _ s r)
       (λ d et r. inr (λ other alike. ap (lead (run (channel_turn crate_count other channel width) channel_out k)) (turn_done crate_count other channel width x d) ∙ r))
       refl e
     where
@@ -113,7 +114,7 @@ module _ (src : List ℕ) (at : ℕ) (store : List ℕ) (channel width next : �
       ⊎_elim inl
       (λ same. inr (λ other alike.
       same_run (channel_turn crate_count other channel width) (channel_turn crate_count other channel width) channel_out channel_out (Ok next, s) (λ (x : Chan). Unit {0})
-      (λ x k. fault_done 9 next _ s k) (λ k x r. tt) (λ x t k b. k) (λ x k. k) _ _ _ (omega (arith, alike.1)) (same other alike)))
+      (λ x k. fault_done BytesEnd next _ s k) (λ k x r. tt) (λ x t k b. k) (λ x k. k) _ _ _ (omega (arith, alike.1)) (same other alike)))
       (channel_or src channel width (length src + 1) (chan at 0 store) next s e)
 
 -- ---- Four channels
@@ -199,7 +200,7 @@ module _ (src : List ℕ) (at : ℕ) (store : List ℕ) (width next : ℕ) (s : 
     unfolding parts_of
     by_kind =
         kind_cases src at (λ (z : Kind). kind_of src at ≡ z → rest_by (parts_of Crate) src at width z (crate_start src at store) ≡ (Ok next, s) → Or)
-        (λ ek e. fault_done 9 next _ s e)
+        (λ ek e. fault_done BytesEnd next _ s e)
         (λ h b ek e. inr (by_start kind.Flat ek h (flat_full at (crate_start src at store) 0 width e)))
         (λ h b m ek e. four_or ek h (apart crate_count src (at + 4) (crate_start src at store) width next s e))
         (λ h b m ek e. inr (by_start (kind.Pixel (at + 4)) ek h (flat_full (at + 4) (crate_start src at store) 4 (width - 1) e)))
