@@ -8,8 +8,7 @@ use Rattle.channels_read.specs.Channels.{channels_of}
 use Rattle.flat_read.specs.Flat.{flat_rule, flat_of}
 use Rattle.steps.specs.Answer.{Taken}
 use Rattle.std.specs.Prelude.{Err}
-use Rattle.steps.specs.declared.refusal.Reason.{Reason}
-use Rattle.steps.specs.declared.refusal.Reason.TheVariants.{BrokenRow, BytesEnd, OldRun}
+use Rattle.steps.specs.declared.refusal.Reason.TheVariants.{BrokenRow, BytesEnd}
 use Rattle.steps.specs.declared.Reading.{Reading}
 use Rattle.steps.specs.declared.Reading.TheVariants.{Crate, Document}
 use Rattle.rows_read.specs.declared.kind.Kind.{Kind}
@@ -120,10 +119,10 @@ crate_row = row_of Crate
 abbrev pub document_row : RowRule
 document_row = row_of Document
 
--- why a reading refuses a row: by 9, and by 25 at a pixel 1,1,1,n of a flat part in the crate reading, by 14 in the document reading
-abbrev pub other_fault : Reading → Reason
-other_fault Crate = OldRun
-other_fault Document = BrokenRow
+-- the numbers by which a reading refuses a row: 9, and 25 at a pixel 1,1,1,n of a flat part in the crate reading, 14 in the document reading
+abbrev pub other_fault : Reading → ℕ
+other_fault Crate = 25
+other_fault Document = 14
 
-abbrev pub RowFault : Reading → Reason → Type 0
-RowFault reading reason = (reason ≡ BytesEnd) ⊎ (reason ≡ other_fault reading)
+abbrev pub RowFault : Reading → ℕ → Type 0
+RowFault reading number = (number ≡ 9) ⊎ (number ≡ other_fault reading)

@@ -10,8 +10,8 @@ use lib.ListN.{length, get_or}
 use Rattle.steps.specs.Loop.{Turn}
 use Rattle.steps.specs.Answer.{Taken}
 use Rattle.std.specs.Prelude.{Ok, Err}
+use Rattle.steps.specs.Refusal.{reason_number}
 use Rattle.steps.specs.declared.refusal.Reason.{Reason}
-use Rattle.steps.specs.declared.refusal.Reason.TheVariants.{BrokenRow, BytesEnd}
 use Rattle.steps.proofs.Laws.Turns.{by_test, Leads, run_keeps}
 use Rattle.steps.specs.declared.Reading.{Reading}
 use Rattle.steps.specs.declared.Reading.TheVariants.{Crate, Document}
@@ -26,17 +26,17 @@ use Rattle.rows_read.specs.Row.{RowParts, is_flat_width, rest_by, row_by, mark_o
 use Rattle.rows_read.proofs.Laws.Row.{kind_cases}
 
 -- no fault, or one of those
-abbrev By : (Reason → Type 0) → Taken × List ℕ → Type 0
+abbrev By : (ℕ → Type 0) → Taken × List ℕ → Type 0
 By N (Ok next, store) = Unit {0}
-By N (Err reason, store) = N reason
+By N (Err reason, store) = N (reason_number reason)
 
 -- what a rule may say of a count
-abbrev pub Counts : (Reason → Type 0) → Count → Type 0
+abbrev pub Counts : (ℕ → Type 0) → Count → Type 0
 Counts N (span n) = Unit {0}
-Counts N (fault reason) = N reason
+Counts N (fault reason) = N (reason_number reason)
 Counts N (short n) = Unit {0}
 
-module _ (N : Reason → Type 0) (nine : N BytesEnd) where
+module _ (N : ℕ → Type 0) (nine : N 9) where
   -- a turn that goes on, or ends so
   abbrev Ends : {S : Type 0} → Turn S (Taken × List ℕ) → Type 0
   Ends = Leads (λ s. Unit {0}) (By N)
@@ -69,7 +69,7 @@ module _ (N : Reason → Type 0) (nine : N BytesEnd) where
 
   row_faults : (parts : RowParts) → ((src : List ℕ) (at : ℕ) (store : List ℕ) (start wanted : ℕ) → By N (parts.flat src at store start wanted))
       → ((src : List ℕ) (at : ℕ) (store : List ℕ) (width : ℕ) → By N (parts.channels src at store width))
-      → ((src : List ℕ) (at width : ℕ) → parts.mark src at width ≡ false → N BrokenRow)
+      → ((src : List ℕ) (at width : ℕ) → parts.mark src at width ≡ false → N 14)
       → (src : List ℕ) (at : ℕ) (store : List ℕ) (width : ℕ) → By N (row_by parts src at store width)
   unfolding row_by
   row_faults parts flats channels marks src at store width =
@@ -97,7 +97,7 @@ ones_faults Document src x =
     let E : Turn Flat (Taken × List ℕ) → Type 0 = Leads (λ (y : Flat). Unit {0}) (By (RowFault Document)) in
     by_test E (ltb x.place 4) (λ t. inr refl) (λ t. by_test E (ltb x.wanted (times_of src x)) (λ u. inr refl) (λ u. tt))
 
-mark_faults : (reading : Reading) (src : List ℕ) (at width : ℕ) → mark_of reading src at width ≡ false → RowFault reading BrokenRow
+mark_faults : (reading : Reading) (src : List ℕ) (at width : ℕ) → mark_of reading src at width ≡ false → RowFault reading 14
 mark_faults Crate src at width e = absurd (false≢true (sym e))
 mark_faults Document src at width e = inr refl
 
@@ -107,5 +107,5 @@ reading_by reading =
     row_faults (RowFault reading) (inl refl) (parts_of reading) (flat_faults (RowFault reading) (inl refl) (flat_rule reading) (ones_faults reading))
     (channels_faults (RowFault reading) (inl refl) (count_rule reading) (count_faults reading)) (mark_faults reading)
 
-pub reading_faults : (reading : Reading) (src : List ℕ) (at : ℕ) (store : List ℕ) (width : ℕ) (reason : Reason) (store' : List ℕ) → (Err reason, store') ≡ row_of reading src at store width → RowFault reading reason
+pub reading_faults : (reading : Reading) (src : List ℕ) (at : ℕ) (store : List ℕ) (width : ℕ) (reason : Reason) (store' : List ℕ) → (Err reason, store') ≡ row_of reading src at store width → RowFault reading (reason_number reason)
 reading_faults reading src at store width reason store' e = subst (By (RowFault reading)) (sym e) (reading_by reading src at store width)
