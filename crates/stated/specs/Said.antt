@@ -1,25 +1,23 @@
 -- RULES 3.9 to 3.13: what the FORMAT and EXPOSURE lines of a header say, by a reading.
-use Rattle.std.specs.Prelude.{ℕ, ◌+◌, Bool, true, false, ◌&&◌, List, [], ◌∷◌, eqb, leb, length, get_or, take, drop}
+use Rattle.std.specs.Prelude.{ℕ, ◌+◌, Bool, true, false, ◌&&◌, List, [], ◌∷◌, eqb, leb, length, get_or, take, drop, Float, Option, Some, None, Result, Ok, Err}
 use Rattle.steps.specs.Loop.{pick, Turn, more, halt, run}
 use Rattle.steps.specs.Answer.{Answer, done, refused, refuse, Check, check}
+use Rattle.steps.specs.Refusal.{reason_number}
 use Rattle.steps.specs.declared.Reading.{Reading}
 use Rattle.steps.specs.declared.Reading.TheVariants.{Crate, Document}
+use Rattle.steps.specs.declared.refusal.Reason.{Reason}
 use Rattle.pixel.specs.Units.{of_units, mag}
 use Rattle.words.specs.Lines.{line_feed, past, between, same}
 use Rattle.words.specs.Fields.{trim}
 use Rattle.stated.specs.Rounded.{product, usable}
 use Rattle.stated.specs.Exposure.{Units, units, unread, exposure_of}
 use Rattle.stated.specs.declared.Colour.{Colour}
-use Rattle.stated.specs.declared.Colour.TheVariants as colour
-use Rattle.stated.specs.declared.Exposure.{Exposure}
-use Rattle.stated.specs.declared.Exposure.TheVariants as exposure
+use Rattle.stated.specs.declared.Colour.TheVariants.{Rgbe, Xyze}
 use Rattle.stated.specs.declared.Said.{Said}
-use Rattle.stated.specs.declared.SaidAnswer.{SaidAnswer}
-use Rattle.stated.specs.declared.SaidAnswer.TheVariants.{Heard, Refused}
 
 -- neither is stated
 abbrev pub nothing : Said
-nothing = record { colour = colour.NotStated; exposure = exposure.NotStated }
+nothing = record { colour = None; exposure = None }
 
 -- ---- A line counts if it starts FORMAT= or EXPOSURE=; its rest is trimmed
 
@@ -46,22 +44,22 @@ abbrev pub xyze_format : List ℕ
 xyze_format = 51 ∷ 50 ∷ 45 ∷ 98 ∷ 105 ∷ 116 ∷ 95 ∷ 114 ∷ 108 ∷ 101 ∷ 95 ∷ 120 ∷ 121 ∷ 122 ∷ 101 ∷ []
 
 abbrev pub coloured : Said → Colour → Said
-coloured said kind = record { colour = kind; exposure = said.exposure }
+coloured said kind = record { colour = Some kind; exposure = said.exposure }
 
 unfoldable pub formatted : Said → List ℕ → Answer Said
 formatted said rest =
-    pick (same rest rgbe_format) (done (coloured said colour.Rgbe))
-    (pick (same rest xyze_format) (done (coloured said colour.Xyze)) (refuse 15))
+    pick (same rest rgbe_format) (done (coloured said Rgbe))
+    (pick (same rest xyze_format) (done (coloured said Xyze)) (refuse 15))
 
 -- ---- Several EXPOSURE lines multiply in file order; one that can't be read, or is or becomes zero or infinite, is refusal 16
 
 -- what is stated together with a line of u times 2^-149
-abbrev pub together : Exposure → ℕ → ℕ
-together (exposure.Stated x) u = product (mag x) u
-together exposure.NotStated u = u
+abbrev pub together : Option Float → ℕ → ℕ
+together (Some x) u = product (mag x) u
+together None u = u
 
 abbrev pub stating : Said → ℕ → Said
-stating said n = record { colour = said.colour; exposure = exposure.Stated (of_units n) }
+stating said n = record { colour = said.colour; exposure = Some (of_units n) }
 
 unfoldable pub exposed : Said → Units → Answer Said
 exposed said (units u) = let n = together said.exposure u in pick (usable u && usable n) (done (stating said n)) (refuse 16)
@@ -116,6 +114,6 @@ heard_in (done said) = said
 heard_in (refused number place) = nothing
 
 -- the paper's answer, for each case of the call's answer
-abbrev pub paper_of : SaidAnswer → Answer Said
-paper_of (Heard said) = done said
-paper_of (Refused number) = refuse number
+abbrev pub paper_of : Result Said Reason → Answer Said
+paper_of (Ok said) = done said
+paper_of (Err reason) = refuse (reason_number reason)

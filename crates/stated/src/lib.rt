@@ -6,154 +6,107 @@ mod product;
 mod rounded;
 
 ghost use Rattle.std.specs.Prelude.{◌≡◌, ◌≤◌, length};
-ghost use Rattle.stated.specs.Said.{starts, formatted, exposed, heard, said_of, said_by, paper_of};
 ghost use Rattle.stated.specs.Exposure.{exposure_of};
 ghost use Rattle.stated.specs.Inner.{Sound, SoundAnswer};
+ghost use Rattle.stated.specs.Said.{formatted, exposed, heard, said_of, said_by, paper_of};
 
-use number::Factor;
-use steps::{Reading, refusal};
+use steps::Reading;
+use steps::refusal::Reason;
 use words::{fields, lines};
 
 // The colours that a pixel's bytes stand for.
-#[derive(Clone, Copy)]
+#[derive(Clone, Copy, Debug, PartialEq, Eq)]
 pub enum Colour {
     Rgbe,
     Xyze,
-    NotStated,
 }
 
-// The number by which the samples were multiplied, if the header says one.
-#[derive(Clone, Copy)]
-pub enum Exposure {
-    Stated(f32),
-    NotStated,
-}
-
-// What the lines say together.
-#[derive(Clone, Copy)]
+// What the lines say together, where they say it: the colours, and the number by which the samples were multiplied.
+// A ghost field can't hold that this number is `Sound`: `stating` of the specs makes a Said of any number.
+#[derive(Clone, Copy, Debug, PartialEq)]
 pub struct Said {
-    pub colour: Colour,
-    pub exposure: Exposure,
+    pub colour: Option<Colour>,
+    pub exposure: Option<f32>,
 }
 
-// What reading the lines answers.
-#[derive(Clone, Copy)]
-pub enum SaidAnswer {
-    Heard(Said),
-    Refused { number: u8 },
-}
-
-// Whether a line starts with a key.
-fn starts(line: &[u8], key: &[u8]) -> bool
-    ensures { result ≡ starts key.now line.now }
-{
-    if line.len() < key.len() {
-        return false;
-    }
-    lines::same(&line[0..key.len()], key)
-}
+// What no lines say.
+const NOTHING: Said = Said {
+    colour: None,
+    exposure: None,
+};
 
 // What is said with a FORMAT line more, of which `rest` stands behind its key.
-fn with_format(said: Said, rest: &[u8]) -> SaidAnswer
+#[tactic(auto, unfolding(crate::specs::Said::formatted))]
+fn with_format(said: Said, rest: &[u8]) -> Result<Said, Reason>
     requires { Sound said }
     ensures result_value { paper_of result ≡ formatted said rest.now }
     ensures sound_answer { SoundAnswer result }
 {
-    let exposure = said.exposure;
-    if lines::same(rest, b"32-bit_rle_rgbe") {
-        return SaidAnswer::Heard(Said {
-            colour: Colour::Rgbe,
-            exposure,
-        });
-    }
-    if lines::same(rest, b"32-bit_rle_xyze") {
-        return SaidAnswer::Heard(Said {
-            colour: Colour::Xyze,
-            exposure,
-        });
-    }
-    let unknown = refusal::UNKNOWN_FORMAT;
-    SaidAnswer::Refused { number: unknown }
+    let colour = if lines::same(rest, b"32-bit_rle_rgbe") {
+        Colour::Rgbe
+    } else if lines::same(rest, b"32-bit_rle_xyze") {
+        Colour::Xyze
+    } else {
+        return Err(Reason::UnknownFormat);
+    };
+    Ok(Said {
+        colour: Some(colour),
+        ..said
+    })
 }
 
 // What is said with an EXPOSURE line more, of which `rest` stands behind its key.
-fn with_exposure(said: Said, rest: &[u8]) -> SaidAnswer
+fn with_exposure(said: Said, rest: &[u8]) -> Result<Said, Reason>
     requires { Sound said }
     ensures result_value { paper_of result ≡ exposed said (exposure_of rest.now) }
     ensures sound_answer { SoundAnswer result }
 {
-    let Factor::Is(x) = number::factor_in(rest) else {
-        return SaidAnswer::Refused {
-            number: refusal::EXPOSURE,
-        };
-    };
-    let before = said.exposure;
-    let Factor::Is(product) = product::together(before, x) else {
-        return SaidAnswer::Refused {
-            number: refusal::EXPOSURE,
-        };
-    };
-    let colour = said.colour;
-    SaidAnswer::Heard(Said {
-        colour,
-        exposure: Exposure::Stated(product),
+    let x = number::factor_in(rest).ok_or(Reason::Exposure)?;
+    let product = product::together(said.exposure, x).ok_or(Reason::Exposure)?;
+    Ok(Said {
+        exposure: Some(product),
+        ..said
     })
 }
 
 // What is said with a line more.
-fn with_line(said: Said, line: &[u8]) -> SaidAnswer
+#[tactic(auto, using(crate::proofs::Laws::Said::line_format, crate::proofs::Laws::Said::line_exposure, crate::proofs::Laws::Said::line_other))]
+fn with_line(said: Said, line: &[u8]) -> Result<Said, Reason>
     requires { Sound said }
     ensures result_value { paper_of result ≡ heard said line.now }
     ensures sound_answer { SoundAnswer result }
 {
-    if starts(line, b"FORMAT=") {
-        return with_format(said, fields::trim(&line[7..]));
+    if let Some(rest) = line.strip_prefix(b"FORMAT=") {
+        return with_format(said, fields::trim(rest));
     }
-    if starts(line, b"EXPOSURE=") {
-        return with_exposure(said, fields::trim(&line[9..]));
+    if let Some(rest) = line.strip_prefix(b"EXPOSURE=") {
+        return with_exposure(said, fields::trim(rest));
     }
-    SaidAnswer::Heard(said)
+    Ok(said)
 }
 
 // What the lines from `at` on say, up to the one that ends the header.
-fn read_lines(bytes: &[u8], at: usize) -> SaidAnswer
+fn read_lines(bytes: &[u8], at: usize) -> Result<Said, Reason>
     requires { at ≤ length bytes.now }
     ensures { paper_of result ≡ said_of bytes.now at }
 {
-    let mut said = Said {
-        colour: Colour::NotStated,
-        exposure: Exposure::NotStated,
-    };
+    let mut said = NOTHING;
     let mut p = at;
-    while p < bytes.len() {
-        if bytes[p] == 10 {
-            return SaidAnswer::Heard(said);
-        }
-        let next = lines::past(bytes, p, 10);
-        let answer = with_line(said, &bytes[p..next]);
-        match answer {
-            SaidAnswer::Heard(more) => {
-                said = more;
-            }
-            SaidAnswer::Refused { number } => {
-                return SaidAnswer::Refused { number };
-            }
-        }
+    while p < bytes.len() && bytes[p] != b'\n' {
+        let next = lines::past(bytes, p, b'\n');
+        said = with_line(said, &bytes[p..next])?;
         p = next;
     }
-    SaidAnswer::Heard(said)
+    Ok(said)
 }
 
 // What the lines from `at` on say, by a reading.
-pub fn read(reading: Reading, bytes: &[u8], at: usize) -> SaidAnswer
+pub fn read(reading: Reading, bytes: &[u8], at: usize) -> Result<Said, Reason>
     requires { at ≤ length bytes.now }
     ensures { paper_of result ≡ said_by reading bytes.now at }
 {
     match reading {
-        Reading::Crate => SaidAnswer::Heard(Said {
-            colour: Colour::NotStated,
-            exposure: Exposure::NotStated,
-        }),
+        Reading::Crate => Ok(NOTHING),
         Reading::Document => read_lines(bytes, at),
     }
 }

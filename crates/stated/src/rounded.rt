@@ -4,10 +4,13 @@ ghost use Rattle.pixel.specs.Units.{of_units};
 ghost use Rattle.stated.specs.Rounded.{nearest_whole, nearest_units, usable};
 ghost use Rattle.stated.specs.Inner.{Usable};
 
+use std::cmp::Ordering;
+
 // 2^23: one in the exponent field of an f32's bits.
 const FIELD: u32 = 8388608;
 
 // a / b rounded to the nearest whole number, a tie to the even one.
+#[tactic(auto, using(crate::proofs::Laws::Rounded::whole_down, crate::proofs::Laws::Rounded::whole_tie, crate::proofs::Laws::Rounded::whole_up))]
 fn nearest_whole(a: usize, b: usize) -> usize
     requires { (0 < b) × (b ≤ 2 ^ 34) × (a < b * 2 ^ 24) }
     ensures value { result ≡ nearest_whole a b }
@@ -15,13 +18,11 @@ fn nearest_whole(a: usize, b: usize) -> usize
 {
     let q = a / b;
     let twice = a % b * 2;
-    if twice < b {
-        return q;
+    match twice.cmp(&b) {
+        Ordering::Less => q,
+        Ordering::Equal => q + q % 2,
+        Ordering::Greater => q + 1,
     }
-    if twice == b {
-        return q + q % 2;
-    }
-    q + 1
 }
 
 // The f32 nearest to a / b times 2^k: a is doubled until the quotient has 24 binary digits, which stand below the exponent field.

@@ -7,6 +7,7 @@ use lib.Dec.{T, ltb}
 use lib.Pow.{pow_pos}
 use lib.Ieee.{Float, nan, inf, fin, binary32, mul, round, of_bits, lt, fits}
 use lib.Ieee.Bits.{of_bits-fits}
+use Rattle.std.specs.Prelude.{Option, Some, None}
 use Rattle.steps.specs.Loop.{pick}
 use Rattle.pixel.specs.Units.{of_units, Exactly, mag}
 use Rattle.pixel.specs.Inner.{bright}
@@ -17,10 +18,6 @@ use Rattle.pixel.proofs.Laws.Order.{lt_mag}
 use Rattle.stated.specs.Rounded.{nearest_units, product, usable}
 use Rattle.stated.specs.Said.{together}
 use Rattle.stated.specs.Inner.{usable_factor, Usable, SoundSoFar}
-use Rattle.stated.specs.declared.Exposure.{Exposure}
-use Rattle.stated.specs.declared.Exposure.TheVariants.{Stated, NotStated}
-use Rattle.stated.specs.declared.number.Factor.{Factor}
-use Rattle.stated.specs.declared.number.Factor.TheVariants.{Is, Unread}
 use Rattle.stated.proofs.Laws.Rounded.{nearest_same, round_bright, round_usable, round_units, usable_most}
 
 -- ---- the tests against zero and plus infinity
@@ -86,28 +83,28 @@ module _ (x y : Float) (f : T (fits binary32 x)) (g : T (fits binary32 y)) (u : 
   tested : usable (mag (mul binary32 x y)) ≡ usable (product (mag x) (mag y))
   tested = ap (λ (z : Float). usable (mag z)) once ∙ round_usable (mag x * mag y) (2 ^ 149 * 2 ^ 149) both ∙ ap usable same
 
-  pub times_is : usable (mag (mul binary32 x y)) ≡ true → Is (mul binary32 x y) ≡ usable_factor (product (mag x) (mag y))
+  pub times_is : usable (mag (mul binary32 x y)) ≡ true → Some (mul binary32 x y) ≡ usable_factor (product (mag x) (mag y))
   unfolding usable_factor
   times_is e =
       let good : usable (product (mag x) (mag y)) ≡ true = sym tested ∙ e in
-      ap Is (once ∙ round_units (mag x * mag y) (2 ^ 149 * 2 ^ 149) both (ap usable same ∙ good) ∙ ap of_units same)
-      ∙ ap (λ (t : Bool). pick t (Is (of_units (product (mag x) (mag y)))) Unread) (sym good)
+      ap Some (once ∙ round_units (mag x * mag y) (2 ^ 149 * 2 ^ 149) both (ap usable same ∙ good) ∙ ap of_units same)
+      ∙ ap (λ (t : Bool). pick t (Some (of_units (product (mag x) (mag y)))) None) (sym good)
 
-  pub times_not : usable (mag (mul binary32 x y)) ≡ false → Unread ≡ usable_factor (product (mag x) (mag y))
+  pub times_not : usable (mag (mul binary32 x y)) ≡ false → None ≡ usable_factor (product (mag x) (mag y))
   unfolding usable_factor
-  times_not e = ap (λ (t : Bool). pick t (Is (of_units (product (mag x) (mag y)))) Unread) (sym e ∙ tested)
+  times_not e = ap (λ (t : Bool). pick t (Some (of_units (product (mag x) (mag y)))) None) (sym e ∙ tested)
 
 -- ---- with what was stated before
 
-pub together_first : (x : Float) (before : Exposure) → T (fits binary32 x) → Usable x → before ≡ NotStated → Is x ≡ usable_factor (together before (mag x))
+pub together_first : (x : Float) (before : Option Float) → T (fits binary32 x) → Usable x → before ≡ None → Some x ≡ usable_factor (together before (mag x))
 unfolding usable_factor
 together_first x before f u e =
-    ap Is (usable_itself x f u)
-    ∙ ap (λ (t : Bool). pick t (Is (of_units (mag x))) Unread) (sym u.1)
-    ∙ ap (λ (w : Exposure). usable_factor (together w (mag x))) (sym e)
+    ap Some (usable_itself x f u)
+    ∙ ap (λ (t : Bool). pick t (Some (of_units (mag x))) None) (sym u.1)
+    ∙ ap (λ (w : Option Float). usable_factor (together w (mag x))) (sym e)
 
-pub together_more : (x y : Float) (before : Exposure) (r : Factor) → before ≡ Stated y → r ≡ usable_factor (product (mag y) (mag x)) → r ≡ usable_factor (together before (mag x))
-together_more x y before r e h = h ∙ ap (λ (w : Exposure). usable_factor (together w (mag x))) (sym e)
+pub together_more : (x y : Float) (before : Option Float) (r : Option Float) → before ≡ Some y → r ≡ usable_factor (product (mag y) (mag x)) → r ≡ usable_factor (together before (mag x))
+together_more x y before r e h = h ∙ ap (λ (w : Option Float). usable_factor (together w (mag x))) (sym e)
 
-pub stated_usable : (y : Float) (before : Exposure) → before ≡ Stated y → SoundSoFar before → Usable y
+pub stated_usable : (y : Float) (before : Option Float) → before ≡ Some y → SoundSoFar before → Usable y
 stated_usable y before e h = subst SoundSoFar e h

@@ -3,7 +3,7 @@ use mathlib.Core.Path.{◌≡◌, refl, sym, ap, ◌∙◌, subst}
 use mathlib.Core.Bool.{Bool, true, false, ◌&&◌}
 use mathlib.Core.Logic.{◌⊎◌, inl, inr}
 use Prim.Native.Nat.{ℕ, suc, ◌+◌, ◌-◌, ◌*◌, ◌/◌, ◌%◌, ◌^◌, ◌≤◌, ◌<◌, compare, Ordering}
-use native.Mathlib.Nat.{mul_assoc, mul_comm, mul-pos, le_trans, le_of_eq, lt_of_lt_of_le, eq-or-lt_of_le, div-lt_iff_lt-mul, mod-lt}
+use native.Mathlib.Nat.{mul_assoc, mul_comm, mul-pos, le_trans, le_of_eq, lt_of_lt_of_le, eq-or-lt_of_le, div-lt_iff_lt-mul}
 use native.Mathlib.Omega.{arith}
 use native.Mathlib.Numerals.{add-one}
 use lib.Dec.{T, is_le, compare_is_eq, eqb, ltb, leb→le, eqb→eq, lit<}
@@ -71,16 +71,6 @@ module _ (a b : ℕ) where
   module _ (B : 0 < b) (M : b ≤ 2 ^ 34) (h : a < b * 2 ^ 24) where
     pub part_most : a / b < 2 ^ 24
     part_most = (div-lt_iff_lt-mul B).1 (subst (λ (z : ℕ). a < z) (mul_comm b (2 ^ 24)) h)
-
-    pub twice_fits : a % b * 2 < 2 ^ 64
-    twice_fits = small (a % b) b (mod-lt a B) M
-      where
-        small : (r b : ℕ) → r < b → b ≤ 2 ^ 34 → r * 2 < 2 ^ 64
-        small r b h k = omega arith
-
-    -- what is the nearest whole number has 24 digits, or is 2^24
-    pub whole_few : (r : ℕ) → r ≡ nearest_whole a b → r ≤ 2 ^ 24
-    whole_few r e = subst (λ (z : ℕ). z ≤ 2 ^ 24) (sym e) (le_trans (whole_most a b) part_most)
 
 -- ---- a fraction of 2^-149 rounded to an f32
 

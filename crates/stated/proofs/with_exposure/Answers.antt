@@ -1,25 +1,29 @@
 -- `stated::with_exposure` meets its contract: the line has a number, and the product is one.
-use borrow.Author.Rules.{rules}
-use Rattle.stated.proofs.Laws.Said.{exposure_unread, exposure_over, exposure_stated, factor_usable}
+use Rattle.std.proofs.Common.{◌≡◌, Err, refl, sym}
+use Rattle.std.specs.Prelude.{Result, Option, Some, None, Float}
+use Rattle.std.specs.Option.{ok_or}
+use Rattle.std.proofs.lemmas.Option.{none-some}
+use Rattle.std.proofs.lemmas.Result.{err_from_is_err_and}
+use Rattle.steps.specs.declared.refusal.Reason.{Reason}
+use Rattle.stated.proofs.Laws.Said.{exposure_unread, exposure_over, exposure_stated}
 use Rattle.stated.proofs.with_exposure.Goals as goal
 
-pub returns-in_default-clause-result_value : goal.returns-in_default-clause-result_value
-returns-in_default-clause-result_value c = search exposure_unread
+-- where there is no number, the reason is the one that is given for that
+the_reason : (o : Option Float) (r s : Reason) → o ≡ None → ◌≡◌ {A = Result Float Reason} (Err r) (ok_or o s) → r ≡ s
+the_reason None r s n e = let k : ◌≡◌ {A = Result Float Reason} (Err r) (Err s) = e in cc
+the_reason (Some x) r s n e = absurd (none-some x (sym n))
 
-pub returns-in_default-clause-sound_answer : goal.returns-in_default-clause-sound_answer
-returns-in_default-clause-sound_answer c = tt
+pub returns-in_err-x-clause-result_value : goal.returns-in_err-x-clause-result_value
+returns-in_err-x-clause-result_value c =
+    let p = err_from_is_err_and c.from_residual.result c.from_residual.ensures.1 in
+    let d = c.in_err-x.ensures in
+    rw (p.1, p.2, the_reason _ _ _ d.ok_part d.value) (exposure_unread _ _ _ c.factor_in.ensures.value d.ok_part)
 
-pub together-requires : goal.together-requires
-together-requires c = (search rules, search factor_usable)
-
-pub returns-in_default-together-clause-result_value : goal.returns-in_default-together-clause-result_value
-returns-in_default-together-clause-result_value c = search exposure_over
-
-pub returns-in_default-together-clause-sound_answer : goal.returns-in_default-together-clause-sound_answer
-returns-in_default-together-clause-sound_answer c = tt
+pub returns-in_err-product-clause-result_value : goal.returns-in_err-product-clause-result_value
+returns-in_err-product-clause-result_value c =
+    let p = err_from_is_err_and c.from_residual-in_err-product.result c.from_residual-in_err-product.ensures.1 in
+    let d = c.in_err-product.ensures in
+    rw (p.1, p.2, the_reason _ _ _ d.ok_part d.value) (exposure_over _ _ _ c.factor_in.ensures.value _ c.in_ok-x.ensures.ok_part _ refl _ c.together.ensures.value d.ok_part)
 
 pub returns-clause-result_value : goal.returns-clause-result_value
-returns-clause-result_value c = search exposure_stated
-
-pub returns-clause-sound_answer : goal.returns-clause-sound_answer
-returns-clause-sound_answer c = search factor_usable
+returns-clause-result_value c = exposure_stated _ _ _ c.factor_in.ensures.value _ c.in_ok-x.ensures.ok_part _ refl _ c.together.ensures.value _ c.in_ok-product.ensures.ok_part

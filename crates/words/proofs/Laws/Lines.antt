@@ -17,7 +17,7 @@ use Rattle.std.proofs.lemmas.Option.{MatchOption-at_none, MatchOption-at_some}
 use Rattle.steps.specs.Loop.{pick, more, run}
 use Rattle.steps.proofs.Laws.Loop.{Runs, runs_start, runs_more, runs_halt}
 use Rattle.steps.proofs.Laws.Turns.{by_test, Leads, Falls, run_keeps, never_out}
-use Rattle.words.specs.Lines.{up_to, past, same, radiance_line, rgbe_line, is_first, line_feed, line_turn, no_lines, lines_end}
+use Rattle.words.specs.Lines.{up_to, past, same, line_feed, line_turn, no_lines, lines_end}
 
 -- ---- Up to a byte
 
@@ -164,17 +164,6 @@ same_bytes [] [] = refl
 same_bytes [] (y ∷ ys) = refl
 same_bytes (x ∷ xs) [] = refl
 same_bytes (x ∷ xs) (y ∷ ys) = ap (λ (t : Bool). eqb x y && t) (same_bytes xs ys)
-
--- ---- The first line
-
-module _ (line : List ℕ) (s : Bool) (is : s ≡ same line radiance_line) where
-  pub first_radiance : s ≡ true → true ≡ is_first line
-  unfolding is_first
-  first_radiance k = simp (sym is, k)
-
-  pub first_rgbe : (t : Bool) → s ≡ false → t ≡ same line rgbe_line → t ≡ is_first line
-  unfolding is_first
-  first_rgbe t k e = simp (sym is, k) e
 
 -- ---- The further lines
 

@@ -2,5 +2,5 @@
 use Rattle.stated.proofs.Laws.Exposure.{point_read}
 use Rattle.stated.proofs.number.pointed.Goals as goal
 
-pub returns-clause-value : goal.returns-clause-value
-returns-clause-value c = search point_read
+pub returns : goal.returns
+returns c = search point_read

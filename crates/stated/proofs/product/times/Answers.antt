@@ -13,8 +13,5 @@ returns-then-is_usable-clause-value c = let f = passes _ c.well_formed.0.1 in le
 pub returns-then-is_usable-clause-usable_factor : goal.returns-then-is_usable-clause-usable_factor
 returns-then-is_usable-clause-usable_factor c = let f = passes _ c.well_formed.0.1 in let g = passes _ c.well_formed.1.0.1 in let u = c.requires.0 in let v = c.requires.1 in let e = sym c.is_usable.ensures ∙ c.if-is_usable.true in (times_bright c.args.x c.args.y f g u v, e)
 
-pub returns-clause-value : goal.returns-clause-value
-returns-clause-value c = times_not c.args.x c.args.y (passes _ c.well_formed.0.1) (passes _ c.well_formed.1.0.1) c.requires.0 c.requires.1 (sym c.is_usable.ensures ∙ c.if-is_usable.false)
-
-pub returns-clause-usable_factor : goal.returns-clause-usable_factor
-returns-clause-usable_factor c = tt
+pub returns-else-is_usable-clause-value : goal.returns-else-is_usable-clause-value
+returns-else-is_usable-clause-value c = times_not c.args.x c.args.y (passes _ c.well_formed.0.1) (passes _ c.well_formed.1.0.1) c.requires.0 c.requires.1 (sym c.is_usable.ensures ∙ c.if-is_usable.false)
