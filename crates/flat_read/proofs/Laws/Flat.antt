@@ -23,6 +23,10 @@ use Rattle.flat_read.specs.Flat.{Flat, FlatRule, flat, crate_flat, document_ones
 
 -- ---- A pixel
 
+pub repeat_not_0 : (src : List ℕ) (at : ℕ) → (get_or src at 0 ≡ 1 → ⊥) → false ≡ is_repeat src at
+unfolding is_repeat
+repeat_not_0 src at h = simp (ne_eqb (get_or src at 0) 1 h)
+
 -- one whose four bytes are there, stored
 pub four_there : (src : List ℕ) (at : ℕ) (store : List ℕ) (place : ℕ) → at + 4 ≤ length src → four_to src at store place ≡ spread 1 store place (bytes_from src at 4)
 unfolding four_to
@@ -48,6 +52,11 @@ module _ (rule : FlatRule) (src : List ℕ) (p place wanted repeats : ℕ) (stor
     pub flat_missing : length src < p + 4 → (Err BytesEnd, rule.missing src (flat p place wanted repeats store)) ≡ a
     unfolding flat_turn
     flat_missing l = runs_halt r (simp (lt-ltb 0 wanted h, lt-ltb (length src) (p + 4) l))
+
+    pub flat_ordinary : (x : Flat) → p + 4 ≤ length src → is_repeat src p ≡ false → x ≡ ordinary (stored src (flat p place wanted repeats store))
+        → Runs (flat_turn rule src) flat_out (length src - (p + 4)) x a
+    unfolding flat_turn
+    flat_ordinary x l e ex = rw ex (runs_more r (simp (lt-ltb 0 wanted h, le-ltb (length src) (p + 4) l, e)) (omega arith))
 
 -- a turn, case by case
 pub flat_cases : (rule : FlatRule) (src : List ℕ) (x : Flat) (L : Turn Flat (Taken × List ℕ) → Type 0)

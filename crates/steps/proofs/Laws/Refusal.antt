@@ -1,6 +1,6 @@
 -- The laws of the numbers of refusals: each names one check.
 use Prim.Native.Nat.{ℕ}
-use mathlib.Core.Path.{◌≡◌, refl}
+use mathlib.Core.Path.{◌≡◌, refl, sym, ap, ◌∙◌}
 use Rattle.std.specs.Prelude.{eqb}
 use Rattle.steps.specs.Loop.{pick}
 use Rattle.steps.specs.Refusal.{reason_number}
@@ -45,3 +45,7 @@ reason_again BrokenRow = refl
 reason_again UnknownFormat = refl
 reason_again Exposure = refl
 reason_again OldRun = refl
+
+-- so two reasons of one number are one
+pub one_reason : (r s : Reason) → reason_number r ≡ reason_number s → r ≡ s
+one_reason r s e = sym (reason_again r) ∙ ap reason_of e ∙ reason_again s
