@@ -1,6 +1,5 @@
 -- The laws of `specs/Survey.antt`.
-use Rattle.std.proofs.Common.{◌≡◌, ℕ, zero, suc, ◌+◌, ◌-◌, ◌*◌, ◌<◌, ◌≤◌, Bool, true, false, eqb, ltb, List, get_or, sym, refl, ap, ◌∙◌, ⊎_elim, not-suc-le-zero, arith, eqb-true}
-use mathlib.Core.Bool.{false≢true}
+use Rattle.std.proofs.Common.{◌≡◌, ℕ, zero, suc, ◌+◌, ◌-◌, ◌*◌, ◌<◌, ◌≤◌, Bool, true, false, ltb, List, sym, refl, ap, ◌∙◌, ⊎_elim, arith}
 use Rattle.steps.proofs.Laws.Order.{lt_or_ge}
 use Rattle.steps.specs.Loop.{pick}
 use Rattle.steps.proofs.Laws.Turns.{by_test}
@@ -46,12 +45,6 @@ seen_more : (reading : Reading) (n : ℕ) (q : Rgbe) (t : Totals) → seen_times
 unfolding seen_times
 seen_more reading n q t = simp (times_more t.black n (is_black reading q), times_more t.masked n (is_masked reading q), darker_twice reading t.darkest q, brighter_twice reading t.brightest q)
 
--- the record, from what its fields are
-pub seen_is : (reading : Reading) (n : ℕ) (q : Rgbe) (t : Totals) (x y : Bool) (m l : ℕ) (d b : Rgbe) → x ≡ is_black reading q → m ≡ times x n → y ≡ is_masked reading q → l ≡ times y n → d ≡ darker reading t.darkest q
-    → b ≡ brighter reading t.brightest q → ◌≡◌ {A = Totals} (record { black = t.black + m; masked = t.masked + l; darkest = d; brightest = b }) (seen_times reading n q t)
-unfolding seen_times
-seen_is reading n q t x y m l d b ex em ey el ed eb = rw (em, ex, el, ey, ed, eb)
-
 -- ---- Pixels that are the same
 
 alike_from : (store : List ℕ) (i n : ℕ) → Alike store i (suc (suc n)) → Alike store (i + 4) (suc n)
@@ -60,23 +53,15 @@ alike_from store i n h k l =
     let one : i + 4 ≡ i + 4 * 1 = omega arith in
     ap (rgbe_at store) place ∙ h (suc k) (omega arith) ∙ sym (ap (rgbe_at store) one ∙ h 1 (omega arith))
 
-pub alike_one : (store : List ℕ) (i : ℕ) → Alike store i 1
-alike_one store i k l = let place : i + 4 * k ≡ i = omega arith in ap (rgbe_at store) place
+pub alike_one : (store : List ℕ) (i j : ℕ) → j ≡ 1 → Alike store i j
+alike_one store i j e k l = let place : i + 4 * k ≡ i = omega arith in ap (rgbe_at store) place
 
 -- one more
-pub alike_more : (store : List ℕ) (i j k : ℕ) (b : Bool) → Alike store i k → j ≡ i + 4 * k → (b ≡ true → rgbe_at store j ≡ rgbe_at store i) → b ≡ true → Alike store i (k + 1)
-alike_more store i j k b h e f t m l = ⊎_elim (λ (less : m < k). h m less) (λ (not-less : k ≤ m). here (omega arith)) (lt_or_ge m k)
+pub alike_next : (store : List ℕ) (k j : ℕ) → k < j → Alike store (4 * k) (j - k) → rgbe_at store (4 * j) ≡ rgbe_at store (4 * k) → Alike store (4 * k) (j + 1 - k)
+alike_next store k j h a e m l = ⊎_elim (λ (less : m < j - k). a m less) (λ (not-less : j - k ≤ m). here (omega arith)) (lt_or_ge m (j - k))
   where
-    here : m ≡ k → rgbe_at store (i + 4 * m) ≡ rgbe_at store i
-    here z = rw (z, ← e) (f t)
-
--- two pixels, byte by byte
-pub same_not : {x y : Rgbe} → false ≡ true → x ≡ y
-same_not e = absurd (false≢true e)
-
-pub same_is : (store : List ℕ) (i j : ℕ) → get_or store i 0 ≡ get_or store j 0 → get_or store (i + 1) 0 ≡ get_or store (j + 1) 0 → get_or store (i + 2) 0 ≡ get_or store (j + 2) 0
-    → eqb (get_or store (i + 3) 0) (get_or store (j + 3) 0) ≡ true → rgbe_at store j ≡ rgbe_at store i
-same_is store i j a b c d = rw (a, b, c, eqb-true (get_or store (i + 3) 0) (get_or store (j + 3) 0) d)
+    here : 4 * k + 4 * m ≡ 4 * j → rgbe_at store (4 * k + 4 * m) ≡ rgbe_at store (4 * k)
+    here z = rw z e
 
 survey_run : (reading : Reading) (store : List ℕ) (i n m : ℕ) (t : Totals) → Alike store i (suc n) → survey_of reading store i (suc n + m) t ≡ survey_of reading store (i + 4 * suc n) m (seen_times reading (suc n) (rgbe_at store i) t)
 unfolding survey_of
@@ -96,14 +81,15 @@ survey_run reading store i (suc n) m t h =
     ∙ ap (survey_of reading store (i + 4 * suc (suc n)) m) (seen_more reading (suc n) (rgbe_at store i) t)
 
 -- pixels that are the same, and the rest
-pub survey_again : (reading : Reading) (store : List ℕ) (i n k : ℕ) (t u w : Totals) (q : Rgbe) → survey_of reading store i n t ≡ w → 0 < k → k ≤ n → Alike store i k → q ≡ rgbe_at store i → u ≡ seen_times reading k q t
-    → survey_of reading store (i + 4 * k) (n - k) u ≡ w
-survey_again reading store i n zero t u w q e h l a eq eu = absurd (not-suc-le-zero h)
-survey_again reading store i n (suc k) t u w q e h l a eq eu =
-    let all : suc k + (n - suc k) ≡ n = omega arith in
-    rw (eu, eq) (sym (survey_run reading store i k (n - suc k) t a) ∙ ap (λ (z : ℕ). survey_of reading store i z t) all ∙ e)
+pub survey_next : (reading : Reading) (store : List ℕ) (k e n : ℕ) (t u w : Totals) (q : Rgbe) → survey_of reading store (4 * k) (n - k) t ≡ w → k < e → e ≤ n → Alike store (4 * k) (e - k) → q ≡ rgbe_at store (4 * k) → u ≡ seen_times reading (e - k) q t
+    → survey_of reading store (4 * e) (n - e) u ≡ w
+survey_next reading store k e n t u w q is h l a eq eu =
+    let more : ℕ = e - suc k in
+    let run : e - k ≡ suc more = omega arith in
+    let all : suc more + (n - e) ≡ n - k = omega arith in
+    let place : 4 * k + 4 * suc more ≡ 4 * e = omega arith in
+    rw (eu, eq, run, ← place) (sym (survey_run reading store (4 * k) more (n - e) t (rw run at a)) ∙ ap (λ (z : ℕ). survey_of reading store (4 * k) z t) all ∙ is)
 
-pub survey_end : (reading : Reading) (store : List ℕ) (i n : ℕ) (t w : Totals) → survey_of reading store i n t ≡ w → n ≤ 0 → t ≡ w
+pub survey_end : (reading : Reading) (store : List ℕ) (k n : ℕ) (t w : Totals) → survey_of reading store (4 * k) (n - k) t ≡ w → n ≤ k → t ≡ w
 unfolding survey_of
-survey_end reading store i zero t w e h = e
-survey_end reading store i (suc n) t w e h = absurd (not-suc-le-zero h)
+survey_end reading store k n t w e h = let none : n - k ≡ 0 = omega arith in rw none at e

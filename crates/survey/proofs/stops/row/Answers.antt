@@ -1,13 +1,9 @@
--- `survey::stops::row` meets its contract. The invariant: what is left, counted, gives what is wanted.
-use Rattle.std.proofs.Common.{refl, arith, rules}
-use Rattle.survey.proofs.Laws.Stops.{stops_again, stops_end}
+-- `survey::stops::row` meets its contract.
+use Rattle.survey.proofs.Laws.Stops.{stops_next, stops_end}
 use Rattle.survey.proofs.stops.row.Goals as goal
 
-pub loop-left-init : goal.loop-left-init
-loop-left-init c = (search rules, refl)
-
-pub loop-left-preserved : goal.loop-left-preserved
-loop-left-preserved c = (omega arith, search stops_again)
+pub loop-i-preserved : goal.loop-i-preserved
+loop-i-preserved c = search stops_next
 
 pub returns : goal.returns
 returns c = search stops_end
