@@ -1,7 +1,6 @@
 -- All eight orientations: each is a rearrangement of pixels, and where the first and the last stored pixel go.
-use Rattle.std.specs.Prelude.{ℕ, ◌-◌, ◌*◌, ◌<◌, List, ◌≡◌}
+use Rattle.std.specs.Prelude.{ℕ, ◌-◌, ◌*◌, ◌<◌, List, ◌≡◌, Some}
 use Rattle.words.specs.Axes.{minus_y, plus_y, plus_x, minus_x, axes_of}
-use Rattle.words.specs.declared.axes.Axes.TheVariants.{Named}
 use Rattle.words.specs.declared.axes.Orientation.{Orientation}
 use Rattle.places.specs.Places.{cell, long_of, count_of, place_of, Stored}
 
@@ -33,7 +32,7 @@ bottom_right width height = cell width (width - 1) (height - 1)
 -- these two fields name an orientation, whose first stored pixel goes to the one corner and its last to the other
 pub record Runs (first third : List ℕ) (from to : ℕ → ℕ → ℕ) : Type 0 where
   pub orientation : Orientation
-  pub named : axes_of first third ≡ Named orientation
+  pub named : axes_of first third ≡ Some orientation
   pub starts : (width height : ℕ) → place_of orientation width height 0 0 ≡ from width height
   pub ends : (width height : ℕ) → place_of orientation width height (count_of orientation width height - 1) (long_of orientation width height - 1) ≡ to width height
 

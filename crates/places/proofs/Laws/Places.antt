@@ -10,10 +10,6 @@ use Rattle.words.specs.declared.axes.Orientation.{Orientation}
 use Rattle.places.specs.Places.{axis_at, long_of, place_of}
 use Rattle.places.specs.Inner.{line_at, line_of}
 
--- a step back
-pub axis_back : (back : Bool) (length n l m : ℕ) → back ≡ true → l ≡ length - 1 → m ≡ l - n → m ≡ axis_at back length n
-axis_back back length n l m k e f = f ∙ rw (e, k)
-
 -- a stored row's length, or the count of stored rows: the height or the width, and within the limits
 pub either_small : (columns : Bool) (n a b : ℕ) → n ≡ pick columns a b → a ≤ 65535 → b ≤ 65535 → n ≤ 65535
 either_small true n a b e h k = omega arith
