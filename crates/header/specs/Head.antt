@@ -1,34 +1,31 @@
 -- What reading the header answers (RULES 3.5 to 3.7 and 3.14), with the checks 1 to 5, 15 and 16 (RULES 2.2).
-use Rattle.std.specs.Prelude.{ℕ, min, Bool, true, not, ◌&&◌, ◌||◌, List, [], ◌∷◌, ◌≡◌, ltb}
-use Rattle.steps.specs.Answer.{Answer, done, refuse, refusal_of, Check, check, checked}
+use Rattle.std.specs.Prelude.{ℕ, min, Bool, true, not, ◌&&◌, ◌||◌, List, [], ◌∷◌, ◌≡◌, ltb, Option, Some, None, Result}
+use Rattle.steps.specs.Answer.{Answer, done, refuse, paper_of, Check, check, checked}
 use Rattle.steps.specs.Loop.{pick}
 use Rattle.steps.specs.declared.Reading.{Reading}
 use Rattle.steps.specs.declared.Reading.TheVariants.{Crate, Document}
+use Rattle.steps.specs.declared.refusal.Refusal.{Refusal}
 use Rattle.words.specs.Lines.{line_feed, past, first_line, is_first, lines_end}
 use Rattle.words.specs.Fields.{Fields, fields_at}
 use Rattle.words.specs.Axes.{upright, axes_of}
 use Rattle.words.specs.Sizes.{size_of, is_size}
-use Rattle.words.specs.declared.axes.Axes.{Axes}
-use Rattle.words.specs.declared.axes.Axes.TheVariants.{Named, Other}
 use Rattle.words.specs.declared.axes.Orientation.{Orientation}
 use Rattle.stated.specs.declared.Said.{Said}
 use Rattle.stated.specs.Said.{said_by, fault_of, heard_in}
 use Rattle.header.specs.declared.Head.{Head}
-use Rattle.header.specs.declared.HeadAnswer.{HeadAnswer}
-use Rattle.header.specs.declared.HeadAnswer.TheVariants.{Read, Refused}
 
 -- the fields after the lines
 unfoldable pub fields_of : List ℕ → Fields
 fields_of bytes = fields_at bytes (lines_end bytes (past line_feed bytes 0))
 
 -- the size behind Y is the height and that behind X the width, whichever is named first
-abbrev pub height_field : Axes → Fields → List ℕ
-height_field (Named o) f = pick o.columns f.fourth f.second
-height_field Other f = []
+abbrev pub height_field : Option Orientation → Fields → List ℕ
+height_field (Some o) f = pick o.columns f.fourth f.second
+height_field None f = []
 
-abbrev pub width_field : Axes → Fields → List ℕ
-width_field (Named o) f = pick o.columns f.second f.fourth
-width_field Other f = []
+abbrev pub width_field : Option Orientation → Fields → List ℕ
+width_field (Some o) f = pick o.columns f.second f.fourth
+width_field None f = []
 
 -- by the document reading any of the eight, by the crate reading -Y +X and +X -Y alone
 abbrev pub takes : Reading → Orientation → Bool
@@ -36,18 +33,18 @@ takes Crate o = not (o.upward || o.leftward)
 takes Document o = true
 
 -- any other pair of axes
-abbrev pub is_other : Reading → Axes → Bool
-is_other reading (Named o) = not (takes reading o)
-is_other reading Other = true
+abbrev pub is_other : Reading → Option Orientation → Bool
+is_other reading (Some o) = not (takes reading o)
+is_other reading None = true
 
 -- how the stored rows lie: by the crate reading both pairs are h rows of w, from the top and from the left
 abbrev pub lies_by : Reading → Orientation → Orientation
 lies_by Crate o = upright
 lies_by Document o = o
 
-abbrev pub orientation_of : Reading → Axes → Orientation
-orientation_of reading (Named o) = lies_by reading o
-orientation_of reading Other = upright
+abbrev pub orientation_of : Reading → Option Orientation → Orientation
+orientation_of reading (Some o) = lies_by reading o
+orientation_of reading None = upright
 
 -- a limit above 65,535 counts as 65,535
 abbrev pub limit : ℕ → ℕ
@@ -62,7 +59,7 @@ size_checks height width widest highest =
     ∷ []
 
 -- the checks 2 to 5: axes are judged before numbers
-abbrev pub field_checks : Reading → Axes → Fields → ℕ → ℕ → List Check
+abbrev pub field_checks : Reading → Option Orientation → Fields → ℕ → ℕ → List Check
 field_checks reading axes f widest highest = check 2 (is_other reading axes) ∷ size_checks (height_field axes f) (width_field axes f) widest highest
 
 -- what the lines after the first say, by a reading
@@ -102,11 +99,6 @@ head_in reading bytes = head_of reading (heard_in (said_in reading bytes)) (fiel
 unfoldable pub header_of : Reading → List ℕ → ℕ → ℕ → Answer Head
 header_of reading bytes widest highest = checked refuse (head_checks reading bytes widest highest) (done (head_in reading bytes))
 
--- the paper's answer, for each case of the call's answer
-abbrev pub paper_of : HeadAnswer → Answer Head
-paper_of (Read head) = done head
-paper_of (Refused refusal) = refusal_of refusal
-
 -- what `header::read` promises
-abbrev pub HeaderPromise : Reading → List ℕ → ℕ → ℕ → HeadAnswer → Type 0
+abbrev pub HeaderPromise : Reading → List ℕ → ℕ → ℕ → Result Head Refusal → Type 0
 HeaderPromise reading bytes widest highest answer = paper_of answer ≡ header_of reading bytes widest highest

@@ -4,27 +4,26 @@
 mod written;
 
 ghost use Rattle.std.specs.Prelude.{◌≡◌, ◌≤◌, length};
-ghost use Rattle.steps.specs.Answer.{refuse};
+ghost use Rattle.steps.specs.Loop.{pick};
 ghost use Rattle.words.specs.Fields.{fields_at};
-ghost use Rattle.header.specs.Head.{takes, lies_by, taking, paper_of, HeaderPromise};
-ghost use Rattle.header.specs.Inner.{sizes_answer, named_answer, fields_answer};
+ghost use Rattle.header.specs.Head.{takes, lies_by, taking, HeaderPromise};
+ghost use Rattle.header.specs.Inner.{answer_of, sizes_answer, fields_answer};
 
-use stated::{Colour, Exposure, Said, SaidAnswer};
-use steps::refusal::Refusal;
-use steps::{Reading, refusal};
-use words::axes::{Axes, Orientation};
-use words::sizes::Size;
+use stated::{Colour, Said};
+use steps::Reading;
+use steps::refusal::{Reason, Refusal};
+use words::axes::Orientation;
 use words::{axes, fields, lines, sizes};
 pub use written::{length, put_digits, write};
 
 // What a header says, how the rows under it lie, and how many bytes it takes.
-#[derive(Clone, Copy)]
+#[derive(Clone, Copy, Debug, PartialEq)]
 pub struct Head {
     pub width: usize,
     pub height: usize,
     pub taken: usize,
-    pub colour: Colour,
-    pub exposure: Exposure,
+    pub colour: Option<Colour>,
+    pub exposure: Option<f32>,
     pub orientation: Orientation,
 }
 
@@ -38,54 +37,24 @@ impl Head {
     }
 }
 
-// What reading a header answers.
-#[derive(Clone, Copy)]
-pub enum HeadAnswer {
-    Read(Head),
-    Refused(Refusal),
-}
-
-// A refusal that names no place.
-fn refused(number: u8) -> HeadAnswer
-    ensures { paper_of result ≡ refuse number }
-{
-    HeadAnswer::Refused(Refusal { number, place: 0 })
-}
-
-// The checks 3 to 5 of the fields of height and width.
+// The checks 3 to 5 of the fields of height and width: both sizes, the width first.
 fn read_sizes(
-    said: Said,
-    orientation: Orientation,
     height: &[u8],
     width: &[u8],
-    taken: usize,
     widest: usize,
     highest: usize,
-) -> HeadAnswer
-    ensures { paper_of result ≡ sizes_answer said orientation height.now width.now taken widest highest }
+) -> Result<(usize, usize), Reason>
+    ensures { answer_of result ≡ sizes_answer height.now width.now widest highest }
 {
-    let Size::Number(h) = sizes::size_of(height) else {
-        return refused(refusal::SIZE);
-    };
-    let Size::Number(w) = sizes::size_of(width) else {
-        return refused(refusal::SIZE);
-    };
-    if steps::least(highest, 65535) < h {
-        return refused(refusal::TOO_HIGH);
+    let height = sizes::size_of(height).ok_or(Reason::Size)?;
+    let width = sizes::size_of(width).ok_or(Reason::Size)?;
+    if highest.min(65535) < height {
+        return Err(Reason::TooHigh);
     }
-    if steps::least(widest, 65535) < w {
-        return refused(refusal::TOO_WIDE);
+    if widest.min(65535) < width {
+        return Err(Reason::TooWide);
     }
-    let colour = said.colour;
-    let exposure = said.exposure;
-    HeadAnswer::Read(Head {
-        width: w,
-        height: h,
-        taken,
-        colour,
-        exposure,
-        orientation,
-    })
+    Ok((width, height))
 }
 
 // Whether a reading takes these axes: the document any of the eight, the crate -Y +X and +X -Y alone.
@@ -93,12 +62,7 @@ fn takes(reading: Reading, o: Orientation) -> bool
     ensures { result ≡ takes reading o }
 {
     match reading {
-        Reading::Crate => {
-            if o.upward {
-                return false;
-            }
-            !o.leftward
-        }
+        Reading::Crate => !(o.upward || o.leftward),
         Reading::Document => true,
     }
 }
@@ -117,27 +81,16 @@ fn lies(reading: Reading, o: Orientation) -> Orientation
     }
 }
 
-// The checks 2 to 5 of axes that are named, and of the fields behind them.
-fn read_named(
-    reading: Reading,
-    said: Said,
-    o: Orientation,
-    second: &[u8],
-    fourth: &[u8],
-    taken: usize,
-    widest: usize,
-    highest: usize,
-) -> HeadAnswer
-    ensures { paper_of result ≡ named_answer reading said o second.now fourth.now taken widest highest }
+// The fields of the height and the width: the size behind Y, and that behind X.
+fn by_axis<'a>(o: Orientation, second: &'a [u8], fourth: &'a [u8]) -> (&'a [u8], &'a [u8])
+    ensures height { result.0.now ≡ pick o.columns fourth.now second.now }
+    ensures width { result.1.now ≡ pick o.columns second.now fourth.now }
 {
-    if takes(reading, o) {
-        let laid = lies(reading, o);
-        if o.columns {
-            return read_sizes(said, laid, fourth, second, taken, widest, highest);
-        }
-        return read_sizes(said, laid, second, fourth, taken, widest, highest);
+    if o.columns {
+        (fourth, second)
+    } else {
+        (second, fourth)
     }
-    refused(refusal::AXES)
 }
 
 // The four fields from `at` on, and their checks.
@@ -148,43 +101,43 @@ fn read_fields(
     at: usize,
     widest: usize,
     highest: usize,
-) -> HeadAnswer
+) -> Result<Head, Reason>
     requires { at ≤ length bytes.now }
-    ensures { paper_of result ≡ fields_answer reading said (fields_at bytes.now at) widest highest }
+    ensures { answer_of result ≡ fields_answer reading said (fields_at bytes.now at) widest highest }
 {
-    let a = lines::past(bytes, at, 32);
-    let b = lines::past(bytes, a, 32);
-    let c = lines::past(bytes, b, 32);
-    let d = lines::past(bytes, c, 10);
+    let a = lines::past(bytes, at, b' ');
+    let b = lines::past(bytes, a, b' ');
+    let c = lines::past(bytes, b, b' ');
+    let taken = lines::past(bytes, c, b'\n');
     let second = fields::trim(&bytes[a..b]);
-    let fourth = fields::trim(&bytes[c..d]);
-    let pair = axes::axes_of(fields::trim(&bytes[at..a]), fields::trim(&bytes[b..c]));
-    match pair {
-        Axes::Named(o) => read_named(reading, said, o, second, fourth, d, widest, highest),
-        Axes::Other => refused(refusal::AXES),
+    let fourth = fields::trim(&bytes[c..taken]);
+    let named = axes::axes_of(fields::trim(&bytes[at..a]), fields::trim(&bytes[b..c]));
+    let o = named.ok_or(Reason::Axes)?;
+    if !takes(reading, o) {
+        return Err(Reason::Axes);
     }
+    let (height, width) = by_axis(o, second, fourth);
+    let (width, height) = read_sizes(height, width, widest, highest)?;
+    Ok(Head {
+        width,
+        height,
+        taken,
+        colour: said.colour,
+        exposure: said.exposure,
+        orientation: lies(reading, o),
+    })
 }
 
 // The header at the start of the bytes.
-pub fn read(reading: Reading, bytes: &[u8], widest: usize, highest: usize) -> HeadAnswer
+pub fn read(reading: Reading, bytes: &[u8], widest: usize, highest: usize) -> Result<Head, Refusal>
     ensures { HeaderPromise reading bytes.now widest highest result }
 {
-    let at = lines::past(bytes, 0, 10);
-    if lines::is_first(&bytes[0..at]) {
-        let answer = stated::read(reading, bytes, at);
-        return match answer {
-            SaidAnswer::Heard(said) => {
-                read_fields(
-                    reading,
-                    said,
-                    bytes,
-                    lines::lines_end(bytes, at),
-                    widest,
-                    highest,
-                )
-            }
-            SaidAnswer::Refused { number } => refused(number),
-        };
+    let at = lines::past(bytes, 0, b'\n');
+    if !lines::is_first(&bytes[..at]) {
+        return Err(Refusal::from(Reason::FirstLine));
     }
-    refused(refusal::FIRST_LINE)
+    let said = stated::read(reading, bytes, at)?;
+    let start = lines::lines_end(bytes, at);
+    let head = read_fields(reading, said, bytes, start, widest, highest)?;
+    Ok(head)
 }

@@ -19,11 +19,11 @@ pub fn put_digits(out: &mut [u8], at: usize, n: usize) -> usize
     ensures { (result ≡ at + length (digits n)) × (out.new ≡ spread 1 out.old at (digits n)) }
 {
     if n < 10 {
-        out[at] = 48 + n as u8;
+        out[at] = b'0' + n as u8;
         return at + 1;
     }
     let p = put_digits(out, at, n / 10);
-    out[p] = 48 + (n % 10) as u8;
+    out[p] = b'0' + (n % 10) as u8;
     p + 1
 }
 
@@ -44,6 +44,6 @@ pub fn write(width: usize, height: usize, out: &mut [u8]) -> usize
     let p = put_digits(out, 56, height);
     steps::put_bytes(b" +X ", 0, out, p, 4);
     let q = put_digits(out, p + 4, width);
-    out[q] = 10;
+    out[q] = b'\n';
     q + 1
 }

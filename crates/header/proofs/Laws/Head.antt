@@ -1,16 +1,21 @@
 -- The laws that proofs use of `specs/Head.antt`, and that two answers which meet the promise of `header::read` are equal.
-use Prim.Native.Nat.{ℕ, ◌<◌, ◌≤◌, min}
-use mathlib.Core.Bool.{Bool, true, false, not, ◌&&◌}
+use Prim.Native.Nat.{ℕ, ◌-◌, ◌<◌, ◌≤◌, min}
+use mathlib.Core.Bool.{Bool, true, false, ◌&&◌}
 use mathlib.Core.List.{List, ◌∷◌}
 use mathlib.Core.Path.{◌≡◌, refl, sym, ap, subst, ◌∙◌}
 use native.Mathlib.Omega.{arith}
 use borrow.Author.Tests.{lt-ltb, le-ltb, ltb-false}
-use lib.ListN.{length}
+use lib.ListN.{length, take}
+use Rattle.std.specs.Prelude.{Option, Some, None, Result, Ok, Err}
+use Rattle.std.proofs.lemmas.Option.{none-some}
 use Rattle.steps.specs.Loop.{pick}
-use Rattle.steps.specs.Answer.{Answer, refuse, refused, done, Check}
+use Rattle.steps.specs.Answer.{Answer, refuse, refused, done, Check, checked}
+use Rattle.steps.specs.Refusal.{reason_number}
+use Rattle.steps.specs.declared.refusal.Reason.{Reason}
+use Rattle.steps.specs.declared.refusal.Refusal.{Refusal}
 use Rattle.steps.specs.declared.Reading.{Reading}
-use Rattle.steps.specs.declared.Reading.TheVariants.{Crate, Document}
-use Rattle.steps.proofs.Laws.Answer.{Passed, passed, call_of, one_answer}
+use Rattle.steps.specs.declared.Reading.TheVariants.{Crate}
+use Rattle.steps.proofs.Laws.Answer.{Passed, passed, pass, failed, one_answer}
 use Rattle.words.specs.Lines.{line_feed, space, past, between, first_line, is_first, lines_end}
 use Rattle.words.specs.Fields.{Fields, trim, fields_at}
 use Rattle.words.specs.Axes.{upright, axes_of}
@@ -18,102 +23,68 @@ use Rattle.words.specs.Sizes.{size_of, is_size}
 use Rattle.words.specs.Inner.{size_answer}
 use Rattle.words.proofs.Laws.Lines.{past_within, lines_within}
 use Rattle.stated.specs.declared.Said.{Said}
-use Rattle.stated.specs.declared.SaidAnswer.{SaidAnswer}
-use Rattle.stated.specs.declared.SaidAnswer.TheVariants as answer
 use Rattle.stated.specs.Said as stated
 use Rattle.stated.specs.Said.{said_by, fault_of}
-use Rattle.header.specs.Head.{takes, lies_by, orientation_of, head, fields_of, height_field, width_field, is_other, said_in, field_checks, head_of, head_in, head_checks, header_of, paper_of, HeaderPromise}
-use Rattle.header.specs.Inner.{sizes_answer, named_answer, fields_answer}
-use Rattle.words.specs.declared.sizes.Size.{Size}
-use Rattle.words.specs.declared.sizes.Size.TheVariants.{Number, NoNumber}
-use Rattle.words.specs.declared.axes.Axes.{Axes}
-use Rattle.words.specs.declared.axes.Axes.TheVariants.{Named, Other}
+use Rattle.header.specs.Head.{takes, lies_by, orientation_of, head, fields_of, height_field, width_field, said_in, size_checks, field_checks, head_of, head_in, head_checks, header_of, HeaderPromise}
+use Rattle.header.specs.Inner.{sizes_answer, fields_answer}
 use Rattle.words.specs.declared.axes.Orientation.{Orientation}
 use Rattle.stated.proofs.Laws.Usable.{Above, said_above}
 use Rattle.header.specs.declared.Head.{Head}
-use Rattle.header.specs.declared.HeadAnswer.{HeadAnswer}
-use Rattle.header.specs.declared.HeadAnswer.TheVariants.{Read, Refused}
 
 -- ---- What a size's answer tells
 
-tells : (field : List ℕ) (t : Bool) → is_size field ≡ t → size_answer field ≡ pick t (Number (size_of field)) NoNumber
+tells : (field : List ℕ) (t : Bool) → is_size field ≡ t → size_answer field ≡ pick t (Some (size_of field)) None
 unfolding size_answer
 tells field t e = simp e
 
-no_number : (k : ℕ) → Number k ≡ NoNumber → ⊥
-no_number k e = let z : ◌≡◌ {A = ℕ} 0 1 = cc in omega arith
+size_is : (field : List ℕ) (k : ℕ) → size_answer field ≡ Some k → (is_size field ≡ true) × (size_of field ≡ k)
+size_is field k h = go (is_size field) refl
+  where
+    go : (t : Bool) → is_size field ≡ t → (is_size field ≡ true) × (size_of field ≡ k)
+    go true e = let same : Some k ≡ Some (size_of field) = sym h ∙ tells field true e in (e, cc)
+    go false e = absurd (none-some k (sym (tells field false e) ∙ h))
 
-module _ (field : List ℕ) (s : Size) (is : s ≡ size_answer field) where
-  is_size_lem : (k : ℕ) (t : Bool) → is_size field ≡ t → s ≡ Number k → (is_size field ≡ true) × (size_of field ≡ k)
-  is_size_lem k true e h = let same : Number k ≡ Number (size_of field) = sym h ∙ is ∙ tells field true e in (e, cc)
-  is_size_lem k false e h = absurd (no_number k (sym h ∙ is ∙ tells field false e))
-
-  no_size : (t : Bool) → is_size field ≡ t → s ≡ NoNumber → is_size field ≡ false
-  no_size true e h = absurd (no_number (size_of field) (sym (is ∙ tells field true e) ∙ h))
-  no_size false e h = e
+no_size : (field : List ℕ) → size_answer field ≡ None → is_size field ≡ false
+no_size field h = go (is_size field) refl
+  where
+    go : (t : Bool) → is_size field ≡ t → is_size field ≡ false
+    go true e = absurd (none-some (size_of field) (sym h ∙ tells field true e))
+    go false e = e
 
 -- ---- The sizes
 
-module _ (said : Said) (lies : Orientation) (height width : List ℕ) (taken widest highest : ℕ) (s : Size) (is : s ≡ size_answer height) where
-  pub sizes_no_height : (a : Answer Head) → s ≡ NoNumber → a ≡ refuse 3 → a ≡ sizes_answer said lies height width taken widest highest
+module _ (height width : List ℕ) (widest highest : ℕ) where
+  pub sizes_no_height : size_answer height ≡ None → refuse 3 ≡ sizes_answer height width widest highest
   unfolding sizes_answer
-  sizes_no_height a n e = e ∙ simp (no_size height s is _ refl n)
+  sizes_no_height n = simp (no_size height n)
 
-  module _ (h : ℕ) (eh : s ≡ Number h) (t : Size) (it : t ≡ size_answer width) where
-    pub sizes_no_width : (a : Answer Head) → t ≡ NoNumber → a ≡ refuse 3 → a ≡ sizes_answer said lies height width taken widest highest
+  module _ (h : ℕ) (eh : size_answer height ≡ Some h) where
+    pub sizes_no_width : size_answer width ≡ None → refuse 3 ≡ sizes_answer height width widest highest
     unfolding sizes_answer
-    sizes_no_width a n e = e ∙ simp ((is_size_lem height s is h _ refl eh).0, no_size width t it _ refl n)
+    sizes_no_width n = simp ((size_is height h eh).0, no_size width n)
 
-    module _ (w : ℕ) (ew : t ≡ Number w) (l : ℕ) (el : l ≡ min highest 65535) where
+    module _ (w : ℕ) (ew : size_answer width ≡ Some w) where
       both : is_size height && is_size width ≡ true
-      both = simp ((is_size_lem height s is h _ refl eh).0, (is_size_lem width t it w _ refl ew).0)
+      both = simp ((size_is height h eh).0, (size_is width w ew).0)
 
-      height_is : size_of height ≡ h
-      height_is = (is_size_lem height s is h _ refl eh).1
-
-      width_is : size_of width ≡ w
-      width_is = (is_size_lem width t it w _ refl ew).1
-
-      pub sizes_high : (a : Answer Head) → l < h → a ≡ refuse 4 → a ≡ sizes_answer said lies height width taken widest highest
+      pub sizes_high : (l : ℕ) → l ≡ min highest 65535 → l < h → refuse 4 ≡ sizes_answer height width widest highest
       unfolding sizes_answer
-      sizes_high a over e = let k : min highest 65535 < h = rw (← el) over in e ∙ simp (both, height_is, lt-ltb (min highest 65535) h k)
+      sizes_high l el over = let k : min highest 65535 < h = rw (← el) over in simp (both, (size_is height h eh).1, lt-ltb (min highest 65535) h k)
 
-      module _ (fits : h ≤ l) (m : ℕ) (em : m ≡ min widest 65535) where
-        pub sizes_wide : (a : Answer Head) → m < w → a ≡ refuse 5 → a ≡ sizes_answer said lies height width taken widest highest
+      module _ (l : ℕ) (el : l ≡ min highest 65535) (fits : h ≤ l) (m : ℕ) (em : m ≡ min widest 65535) where
+        pub sizes_wide : m < w → refuse 5 ≡ sizes_answer height width widest highest
         unfolding sizes_answer
-        sizes_wide a over e =
+        sizes_wide over =
             let i : h ≤ min highest 65535 = rw (← el) fits in
             let k : min widest 65535 < w = rw (← em) over in
-            e ∙ simp (both, height_is, width_is, le-ltb (min highest 65535) h i, lt-ltb (min widest 65535) w k)
+            simp (both, (size_is height h eh).1, (size_is width w ew).1, le-ltb (min highest 65535) h i, lt-ltb (min widest 65535) w k)
 
-        pub sizes_read : w ≤ m → done (head said lies w h taken) ≡ sizes_answer said lies height width taken widest highest
+        pub sizes_read : w ≤ m → done (w, h) ≡ sizes_answer height width widest highest
         unfolding sizes_answer
         sizes_read under =
             let i : h ≤ min highest 65535 = rw (← el) fits in
             let k : w ≤ min widest 65535 = rw (← em) under in
-            simp (both, height_is, width_is, le-ltb (min highest 65535) h i, le-ltb (min widest 65535) w k)
-
--- ---- Axes
-
-pub crate_lies : (reading : Reading) (o : Orientation) → reading ≡ Crate → upright ≡ lies_by reading o
-crate_lies reading o k = rw k
-
-pub document_lies : (reading : Reading) (o : Orientation) → reading ≡ Document → o ≡ lies_by reading o
-document_lies reading o k = rw k
-
-module _ (reading : Reading) (said : Said) (o : Orientation) (second fourth : List ℕ) (taken widest highest : ℕ) (t : Bool) (is : t ≡ takes reading o) (r : Answer Head) where
-  pub named_other : t ≡ false → r ≡ refuse 2 → r ≡ named_answer reading said o second fourth taken widest highest
-  unfolding named_answer
-  named_other k e = e ∙ simp (← is, k)
-
-  module _ (k : t ≡ true) (lies : Orientation) (il : lies ≡ lies_by reading o) where
-    pub named_columns : o.columns ≡ true → r ≡ sizes_answer said lies fourth second taken widest highest → r ≡ named_answer reading said o second fourth taken widest highest
-    unfolding named_answer
-    named_columns c e = e ∙ simp (← is, k, ← il, c)
-
-    pub named_rows : o.columns ≡ false → r ≡ sizes_answer said lies second fourth taken widest highest → r ≡ named_answer reading said o second fourth taken widest highest
-    unfolding named_answer
-    named_rows c e = e ∙ simp (← is, k, ← il, c)
+            simp (both, (size_is height h eh).1, (size_is width w ew).1, le-ltb (min highest 65535) h i, le-ltb (min widest 65535) w k)
 
 -- ---- The four fields, where a, b, c and d are the places after them
 
@@ -127,58 +98,67 @@ module _ (bytes : List ℕ) (at a b c d : ℕ) (ea : a ≡ past space bytes at) 
   unfolding fields_at fields
   fields_are = simp (← ea, ← eb, ← ec, ← ed, ← e1, ← e2, ← e3, ← e4)
 
-  module _ (reading : Reading) (said : Said) (widest highest : ℕ) (axes : Axes) (is : axes ≡ axes_of first third) (r : Answer Head) where
-    answer_by : fields_answer reading said (fields_at bytes at) widest highest
-        ≡ pick (is_other reading axes) (refuse 2) (sizes_answer said (orientation_of reading axes) (height_field axes fields) (width_field axes fields) d widest highest)
-    unfolding fields_answer head_of sizes_answer fields
-    answer_by = rw fields_are (simp (← is))
+  module _ (reading : Reading) (said : Said) (widest highest : ℕ) where
+    module _ (axes : Option Orientation) (is : axes ≡ axes_of first third) where
+      by_axes : fields_answer reading said (fields_at bytes at) widest highest
+          ≡ checked refuse (field_checks reading axes fields widest highest) (done (head said (orientation_of reading axes) (size_of (width_field axes fields)) (size_of (height_field axes fields)) d))
+      unfolding fields_answer head_of fields
+      by_axes = rw fields_are (simp (← is))
 
-    pub fields_named : (o : Orientation) → axes ≡ Named o → r ≡ named_answer reading said o second fourth d widest highest → r ≡ fields_answer reading said (fields_at bytes at) widest highest
-    unfolding fields named_answer
-    fields_named o k e = e ∙ sym (answer_by ∙ rw k (either (takes reading o) _ _))
-      where
-        either : (t : Bool) (x y : Answer Head) → pick (not t) x y ≡ pick t y x
-        either true x y = refl
-        either false x y = refl
+      pub fields_none : axes ≡ None → refuse 2 ≡ fields_answer reading said (fields_at bytes at) widest highest
+      fields_none k = sym (by_axes ∙ simp k)
 
-    pub fields_other : axes ≡ Other → r ≡ refuse 2 → r ≡ fields_answer reading said (fields_at bytes at) widest highest
-    fields_other k e = e ∙ sym (answer_by ∙ simp k)
+      module _ (o : Orientation) (k : axes ≡ Some o) where
+        pub fields_other : takes reading o ≡ false → refuse 2 ≡ fields_answer reading said (fields_at bytes at) widest highest
+        fields_other t = sym (by_axes ∙ rw k (simp t))
+
+        module _ (t : takes reading o ≡ true) (height width : List ℕ) (eh : height ≡ pick o.columns fourth second) (ew : width ≡ pick o.columns second fourth) where
+          by_sizes : fields_answer reading said (fields_at bytes at) widest highest ≡ checked refuse (size_checks height width widest highest) (done (head said (lies_by reading o) (size_of width) (size_of height) d))
+          unfolding fields
+          by_sizes = by_axes ∙ rw (k, eh, ew) (simp t)
+
+          pub fields_fault : (number place : ℕ) → sizes_answer height width widest highest ≡ refused number place → fields_answer reading said (fields_at bytes at) widest highest ≡ refused number place
+          unfolding sizes_answer
+          fields_fault number place e =
+              let f = failed refuse (size_checks height width widest highest) (size_of width, size_of height) (done (head said (lies_by reading o) (size_of width) (size_of height) d)) number place e in
+              by_sizes ∙ f.1 ∙ ap (refused number) (sym f.0)
+
+          pub fields_read : (w h : ℕ) → sizes_answer height width widest highest ≡ done (w, h) → fields_answer reading said (fields_at bytes at) widest highest ≡ done (head said (lies_by reading o) w h d)
+          unfolding sizes_answer
+          fields_read w h e =
+              let p = passed (size_checks height width widest highest) (size_of width, size_of height) (w, h) e in
+              by_sizes ∙ pass refuse (size_checks height width widest highest) (done (head said (lies_by reading o) (size_of width) (size_of height) d)) p.0
+              ∙ ap (λ (z : ℕ × ℕ). done (head said (lies_by reading o) z.0 z.1 d)) p.1
 
 -- ---- The whole header
 
-module _ (reading : Reading) (bytes : List ℕ) (widest highest at : ℕ) (ea : at ≡ past line_feed bytes 0) (t : Bool) (is : t ≡ is_first (between bytes 0 at)) (r : Answer Head) where
+module _ (reading : Reading) (bytes : List ℕ) (widest highest at : ℕ) (ea : at ≡ past line_feed bytes 0) (t : Bool) (is : t ≡ is_first (take at bytes)) where
   first_is : is_first (first_line bytes) ≡ t
-  first_is = ap (λ (n : ℕ). is_first (between bytes 0 n)) (sym ea) ∙ sym is
+  first_is =
+      let none : at - 0 ≡ at = omega arith in
+      ap (λ (n : ℕ). is_first (between bytes 0 n)) (sym ea) ∙ ap (λ (n : ℕ). is_first (take n bytes)) none ∙ sym is
 
-  pub header_wrong : t ≡ false → r ≡ refuse 1 → r ≡ header_of reading bytes widest highest
+  pub header_wrong : t ≡ false → refuse 1 ≡ header_of reading bytes widest highest
   unfolding header_of head_checks
-  header_wrong k e = e ∙ simp (first_is, k)
+  header_wrong k = simp (first_is, k)
 
-  module _ (k : t ≡ true) (s : SaidAnswer) (es : stated.paper_of s ≡ said_by reading bytes at) where
+  module _ (k : t ≡ true) (s : Result Said Reason) (es : stated.paper_of s ≡ said_by reading bytes at) where
     said_is : said_in reading bytes ≡ stated.paper_of s
     unfolding said_in
     said_is = ap (said_by reading bytes) (sym ea) ∙ sym es
 
-    pub header_fault : (number : ℕ) → s ≡ answer.Refused number → r ≡ refuse number → r ≡ header_of reading bytes widest highest
+    pub header_fault : (reason : Reason) → s ≡ Err reason → refuse (reason_number reason) ≡ header_of reading bytes widest highest
     unfolding header_of head_checks
-    header_fault number l e = e ∙ simp (first_is, k, said_is, l)
+    header_fault reason l = simp (first_is, k, said_is, l)
 
-    pub header_right : (said : Said) (end : ℕ) → s ≡ answer.Heard said → end ≡ lines_end bytes at → r ≡ fields_answer reading said (fields_at bytes end) widest highest
-        → r ≡ header_of reading bytes widest highest
+    pub header_right : (said : Said) (end : ℕ) → s ≡ Ok said → end ≡ lines_end bytes at → header_of reading bytes widest highest ≡ fields_answer reading said (fields_at bytes end) widest highest
     unfolding header_of head_checks fields_answer fields_of
-    header_right said end l m e = e ∙ rw (m, ea) (simp (first_is, k, said_is, l))
+    header_right said end l m = rw (m, ea) (simp (first_is, k, said_is, l))
 
 -- ---- One answer
 
-call_same : (a : HeadAnswer) → call_of Read Refused (paper_of a) ≡ a
-call_same (Read x) = refl
-call_same (Refused refusal) = refl
-
-by_paper : (a b : HeadAnswer) → paper_of a ≡ paper_of b → a ≡ b
-by_paper = one_answer Read Refused paper_of call_same
-
-pub header_once : (reading : Reading) (bytes : List ℕ) (widest highest : ℕ) (a b : HeadAnswer) → HeaderPromise reading bytes widest highest a → HeaderPromise reading bytes widest highest b → a ≡ b
-header_once reading bytes widest highest a b p q = by_paper a b (p ∙ sym q)
+pub header_once : (reading : Reading) (bytes : List ℕ) (widest highest : ℕ) (a b : Result Head Refusal) → HeaderPromise reading bytes widest highest a → HeaderPromise reading bytes widest highest b → a ≡ b
+header_once reading bytes widest highest a b p q = one_answer a b (p ∙ sym q)
 
 -- ---- A header that is read is within the limits
 
@@ -208,9 +188,9 @@ module _ (reading : Reading) (bytes : List ℕ) (widest highest : ℕ) (head : H
   unfolding head_of
   header_upright k = sym (ap (λ (x : Head). x.orientation) header_passed.1) ∙ rw k (lies_upright (axes_of (fields_of bytes).first (fields_of bytes).third))
     where
-      lies_upright : (axes : Axes) → orientation_of Crate axes ≡ upright
-      lies_upright (Named o) = refl
-      lies_upright Other = refl
+      lies_upright : (axes : Option Orientation) → orientation_of Crate axes ≡ upright
+      lies_upright (Some o) = refl
+      lies_upright None = refl
 
   -- the exposure that it states is above zero
   pub header_above : Above head.exposure

@@ -68,10 +68,6 @@ module _ (a b : ℕ) where
   unfolding nearest_whole
   whole_up h e = simp (le-ltb (a % b * 2) b h, ne_eqb (a % b * 2) b e)
 
-  module _ (B : 0 < b) (M : b ≤ 2 ^ 34) (h : a < b * 2 ^ 24) where
-    pub part_most : a / b < 2 ^ 24
-    part_most = (div-lt_iff_lt-mul B).1 (subst (λ (z : ℕ). a < z) (mul_comm b (2 ^ 24)) h)
-
 -- ---- a fraction of 2^-149 rounded to an f32
 
 pub nearest_same : (a b c d : ℕ) → 0 < b → 0 < d → a * d ≡ c * b → nearest_units a b ≡ nearest_units c d

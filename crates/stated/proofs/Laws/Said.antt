@@ -10,6 +10,8 @@ use lib.Pointwise.{pointwise}
 use lib.Ieee.{Float}
 use lib.ListN.{length, get_or, take, drop}
 use Rattle.std.specs.Prelude.{Option, Some, None, Result, Ok, Err}
+use Rattle.std.specs.Option.{ok_or}
+use Rattle.std.proofs.lemmas.Option.{none-some}
 use Rattle.steps.specs.Loop.{pick}
 use Rattle.steps.specs.Answer.{Answer, done, refused, refuse}
 use Rattle.steps.specs.Refusal.{reason_number}
@@ -135,6 +137,11 @@ module _ (said : Said) (rest : List ℕ) (f : Option Float) (ef : f ≡ factor_o
     exposure_stated z k =
         let i = factor_is (together said.exposure line.0) z (product ∙ k) in
         ap (λ (y : Float). done record { colour = said.colour; exposure = Some y }) i.1 ∙ sym (tested true i.0)
+
+-- where there is no number, the reason is the one that is given for that
+pub the_reason : {A : Type 0} (o : Option A) (r s : Reason) → o ≡ None → ◌≡◌ {A = Result A Reason} (Err r) (ok_or o s) → r ≡ s
+the_reason {A = A} None r s n e = let k : ◌≡◌ {A = Result A Reason} (Err r) (Err s) = e in cc
+the_reason (Some x) r s n e = absurd (none-some x (sym n))
 
 -- ---- A line more
 

@@ -1,17 +1,8 @@
 -- `stated::with_exposure` meets its contract: the line has a number, and the product is one.
-use Rattle.std.proofs.Common.{◌≡◌, Err, refl, sym}
-use Rattle.std.specs.Prelude.{Result, Option, Some, None, Float}
-use Rattle.std.specs.Option.{ok_or}
-use Rattle.std.proofs.lemmas.Option.{none-some}
+use Rattle.std.proofs.Common.{refl}
 use Rattle.std.proofs.lemmas.Result.{err_from_is_err_and}
-use Rattle.steps.specs.declared.refusal.Reason.{Reason}
-use Rattle.stated.proofs.Laws.Said.{exposure_unread, exposure_over, exposure_stated}
+use Rattle.stated.proofs.Laws.Said.{the_reason, exposure_unread, exposure_over, exposure_stated}
 use Rattle.stated.proofs.with_exposure.Goals as goal
-
--- where there is no number, the reason is the one that is given for that
-the_reason : (o : Option Float) (r s : Reason) → o ≡ None → ◌≡◌ {A = Result Float Reason} (Err r) (ok_or o s) → r ≡ s
-the_reason None r s n e = let k : ◌≡◌ {A = Result Float Reason} (Err r) (Err s) = e in cc
-the_reason (Some x) r s n e = absurd (none-some x (sym n))
 
 pub returns-in_err-x-clause-result_value : goal.returns-in_err-x-clause-result_value
 returns-in_err-x-clause-result_value c =
