@@ -3,8 +3,9 @@ use Rattle.std.specs.Prelude.{ℕ, ◌+◌, ◌*◌, true, false, List, replicat
 use Rattle.steps.specs.Loop.{pick, Turn, more, halt, run}
 use Rattle.steps.specs.Place.{spread}
 use Rattle.steps.specs.Answer.{Answer, done, refused, Check, check}
-use Rattle.steps.specs.declared.Taken.{Taken}
-use Rattle.steps.specs.declared.Taken.TheVariants.{Done, Fault}
+use Rattle.steps.specs.Answer.{Taken}
+use Rattle.std.specs.Prelude.{Ok, Err}
+use Rattle.steps.specs.Refusal.{reason_number}
 use Rattle.places.specs.Places.{Stored, stored_by}
 use Rattle.header.specs.declared.Head.{Head}
 use Rattle.rows_read.specs.Row.{RowRule}
@@ -22,11 +23,11 @@ cleared long store = spread 1 store 0 (replicate (4 * long) 0)
 
 -- a row that was read goes to its places in the output; one at fault leaves the output as it was
 abbrev pub stepped : SampleRule → ℕ → (ℕ → ℕ) → List Float → Taken → List ℕ → Taken × List Float × List ℕ
-stepped rule long place out (Done next) store = (Done next, placed rule place store 0 long out, store)
-stepped rule long place out (Fault number) store = (Fault number, out, store)
+stepped rule long place out (Ok next) store = (Ok next, placed rule place store 0 long out, store)
+stepped rule long place out (Err reason) store = (Err reason, out, store)
 
 -- of a row of so many pixels with these places in the frame, the input, a place in it, the output and the row store:
--- the next place in the input, or the number of the refusal; the output; the row store
+-- the next place in the input, or why the row is at fault; the output; the row store
 unfoldable pub step_of : RowRule → SampleRule → ℕ → (ℕ → ℕ) → List ℕ → ℕ → List Float → List ℕ → Taken × List Float × List ℕ
 step_of row_rule rule long place bytes at out store = let read = row_rule bytes at store long in stepped rule long place out read.0 read.1
 
@@ -48,8 +49,8 @@ Left = Answer ℕ × List Float × List ℕ
 
 -- refusal in row k "leaves rows 0 to k-1 in the output and the rest as lent; the row store is as the steps left it"
 abbrev pub after_step : ℕ → Taken → List Float → List ℕ → Turn Rows Left
-after_step row (Done at) out store = more (rows at (row + 1) store out)
-after_step row (Fault number) out store = halt (refused number row, out, store)
+after_step row (Ok at) out store = more (rows at (row + 1) store out)
+after_step row (Err reason) out store = halt (refused (reason_number reason) row, out, store)
 
 unfoldable pub row_turn : RowRule → SampleRule → List ℕ → Stored → Rows → Turn Rows Left
 row_turn row_rule rule bytes stored x =

@@ -1,8 +1,8 @@
 -- What the whole reader answers, and what it leaves in the output and the row store.
-use Rattle.std.specs.Prelude.{ℕ, ◌*◌, List, [], ◌∷◌, ◌++◌, ◌≡◌, length, ltb, eqb, Float}
+use Rattle.std.specs.Prelude.{ℕ, ◌*◌, List, [], ◌∷◌, ◌++◌, ◌≡◌, length, ltb, eqb, Float, Option, Result}
 use Rattle.steps.specs.Amount.{amount_of}
-use Rattle.steps.specs.declared.amount.Amount.{Amount}
-use Rattle.steps.specs.Answer.{Answer, done, refused, refuse, refusal_of, Check, check, checked}
+use Rattle.steps.specs.Answer.{Answer, done, refused, refuse, paper_of, Check, check, checked}
+use Rattle.steps.specs.declared.refusal.Refusal.{Refusal}
 use Rattle.steps.specs.declared.Reading.{Reading}
 use Rattle.steps.specs.declared.Reading.TheVariants.{Crate, Document}
 use Rattle.pixel.specs.Rgbe.{units_of, pixel_of}
@@ -11,8 +11,6 @@ use Rattle.header.specs.Head.{head_checks, head_in, taking}
 use Rattle.rows_read.specs.Row.{RowRule, row_of}
 use Rattle.reader.specs.Samples.{SampleRule}
 use Rattle.reader.specs.Frame.{Left, stored_of, cleared, rows_of}
-use Rattle.reader.specs.declared.ReadAnswer.{ReadAnswer}
-use Rattle.reader.specs.declared.ReadAnswer.TheVariants as read
 
 -- ---- By any rule for a row and for a pixel
 
@@ -40,19 +38,14 @@ read_by reading row_rule rule bytes widest highest out store =
     checked (λ n. (refuse n, out, store)) (head_checks reading bytes widest highest ++ frame_checks head out store)
     (framed head (rows_of row_rule rule bytes (stored_of head) head.taken out (cleared (stored_of head).long store)))
 
--- the paper's answer, for each case of the call's answer
-abbrev pub paper_of : ReadAnswer → Answer Head
-paper_of (read.Done head) = done head
-paper_of (read.Refused refusal) = refusal_of refusal
-
 -- a call that reads the header by this reading, and the rows by these rules: its answer, the output and the row store afterwards
-abbrev pub ReadPromiseBy : Reading → RowRule → SampleRule → List ℕ → ℕ → ℕ → List Float → List ℕ → ReadAnswer → List Float → List ℕ → Type 0
+abbrev pub ReadPromiseBy : Reading → RowRule → SampleRule → List ℕ → ℕ → ℕ → List Float → List ℕ → Result Head Refusal → List Float → List ℕ → Type 0
 ReadPromiseBy reading row_rule rule bytes widest highest out store answer out' store' =
     (paper_of answer, out', store') ≡ read_by reading row_rule rule bytes widest highest out store
 
 -- ---- How many samples a frame has: "none" exactly where the Rust's product passes 2^64 - 1
 
-abbrev pub output_size : ℕ → ℕ → Amount
+abbrev pub output_size : ℕ → ℕ → Option ℕ
 output_size w h = amount_of (w * h * 3)
 
 -- ---- Either reading
@@ -70,5 +63,5 @@ abbrev pub read_of : Reading → List ℕ → ℕ → ℕ → List Float → Lis
 read_of reading = read_by reading (row_of reading) (pixel_by reading)
 
 -- what `reader::read` promises
-abbrev pub ReadPromise : Reading → List ℕ → ℕ → ℕ → List Float → List ℕ → ReadAnswer → List Float → List ℕ → Type 0
+abbrev pub ReadPromise : Reading → List ℕ → ℕ → ℕ → List Float → List ℕ → Result Head Refusal → List Float → List ℕ → Type 0
 ReadPromise reading = ReadPromiseBy reading (row_of reading) (pixel_by reading)

@@ -4,25 +4,17 @@
 mod samples;
 
 ghost use Rattle.std.specs.Prelude.{◌≡◌, ◌*◌, ◌≤◌, length};
-ghost use Rattle.steps.specs.Answer.{refuse};
+ghost use Rattle.steps.specs.Answer.{paper_of};
 ghost use Rattle.rows_read.specs.Row.{row_of};
 ghost use Rattle.places.specs.Inner.{line_at};
 ghost use Rattle.reader.specs.Frame.{stored_of, step_of, rows_of};
-ghost use Rattle.reader.specs.Read.{output_size, pixel_by, paper_of, framed, ReadPromise};
+ghost use Rattle.reader.specs.Read.{output_size, pixel_by, framed, ReadPromise};
 ghost use Rattle.reader.specs.Inner.{Room, frame_answer};
 
-use header::{Head, HeadAnswer};
-use places::Line;
-use steps::amount::Amount;
-use steps::refusal::Refusal;
-use steps::{Reading, Taken, amount, refusal};
-
-// What reading a file answers: what its header says and the count of bytes taken, or a refusal.
-#[derive(Clone, Copy)]
-pub enum ReadAnswer {
-    Done(Head),
-    Refused(Refusal),
-}
+use header::Head;
+use places::{Layout, Line};
+use steps::refusal::{Reason, Refusal};
+use steps::{Reading, Taken};
 
 // One stored row from a place of the input on, by way of the row store; its pixels lie in the frame along a line.
 pub fn step(
@@ -37,13 +29,19 @@ pub fn step(
     requires { (4 * long ≤ length store.old) × (long ≤ 65535) × Room line long (length out.old) }
     ensures { (result, out.new, store.new) ≡ step_of (row_of reading) (pixel_by reading) long (line_at line) bytes.now at out.old store.old }
 {
-    let t = rows_read::read_row(reading, bytes, at, store, long);
-    match t {
-        Taken::Done { next } => {
-            samples::put_row(reading, store, out, line, long);
-            Taken::Done { next }
-        }
-        Taken::Fault { number } => Taken::Fault { number },
+    let next = rows_read::read_row(reading, bytes, at, store, long)?;
+    samples::put_row(reading, store, out, line, long);
+    Ok(next)
+}
+
+// How the picture of a header is stored.
+fn layout_of(head: Head) -> Layout
+    ensures { result ≡ record { orientation = head.orientation; width = head.width; height = head.height } }
+{
+    Layout {
+        orientation: head.orientation,
+        width: head.width,
+        height: head.height,
     }
 }
 
@@ -54,38 +52,22 @@ fn read_rows(
     head: Head,
     out: &mut [f32],
     store: &mut [u8],
-) -> ReadAnswer
+) -> Result<Head, Refusal>
     requires { (4 * (stored_of head).long ≤ length store.old) × (head.height * (3 * head.width) ≤ length out.old) × (head.width ≤ 65535) × (head.height ≤ 65535) }
     ensures { (paper_of result, out.new, store.new) ≡ framed head (rows_of (row_of reading) (pixel_by reading) bytes.now (stored_of head) head.taken out.old store.old) }
 {
-    let lies = head.orientation;
-    let width = head.width;
-    let height = head.height;
-    let long = places::long(lies, width, height);
-    let count = places::count(lies, width, height);
+    let layout = layout_of(head);
+    let long = layout.long();
+    let count = layout.count();
     let mut p = head.taken;
-    let mut k = 0;
-    while k < count {
-        let line = places::line_of(lies, width, height, k);
-        let t = step(reading, bytes, p, long, line, out, store);
-        match t {
-            Taken::Done { next } => {
-                p = next;
-            }
-            Taken::Fault { number } => {
-                return ReadAnswer::Refused(Refusal { number, place: k });
-            }
+    for k in 0..count {
+        let line = layout.line(k);
+        match step(reading, bytes, p, long, line, out, store) {
+            Ok(next) => p = next,
+            Err(reason) => return Err(Refusal { reason, place: k }),
         }
-        k += 1;
     }
-    ReadAnswer::Done(head.taking(p))
-}
-
-// A refusal that names no place.
-fn refused(number: u8) -> ReadAnswer
-    ensures { paper_of result ≡ refuse number }
-{
-    ReadAnswer::Refused(Refusal { number, place: 0 })
+    Ok(head.taking(p))
 }
 
 // The checks 6 to 8, and then the rows.
@@ -95,24 +77,21 @@ fn read_frame(
     head: Head,
     out: &mut [f32],
     store: &mut [u8],
-) -> ReadAnswer
+) -> Result<Head, Refusal>
     requires { (head.width ≤ 65535) × (head.height ≤ 65535) }
     ensures { (paper_of result, out.new, store.new) ≡ frame_answer (row_of reading) (pixel_by reading) bytes.now head out.old store.old }
 {
-    let lies = head.orientation;
-    let width = head.width;
-    let height = head.height;
-    if out.len() < height * (3 * width) {
-        return refused(refusal::SHORT_OUTPUT);
+    if out.len() < head.height * (3 * head.width) {
+        return Err(Reason::ShortOutput.into());
     }
-    if width == 0 {
-        return refused(refusal::NO_WIDTH);
+    if head.width == 0 {
+        return Err(Reason::NoWidth.into());
     }
-    let long = places::long(lies, width, height);
+    let long = layout_of(head).long();
     if store.len() < 4 * long {
-        return refused(refusal::SHORT_STORE);
+        return Err(Reason::ShortStore.into());
     }
-    steps::clear(store, 4 * long);
+    store[..4 * long].fill(0);
     read_rows(reading, bytes, head, out, store)
 }
 
@@ -124,23 +103,16 @@ pub fn read(
     highest: usize,
     out: &mut [f32],
     store: &mut [u8],
-) -> ReadAnswer
+) -> Result<Head, Refusal>
     ensures { ReadPromise reading bytes.now widest highest out.old store.old result out.new store.new }
 {
-    let h = header::read(reading, bytes, widest, highest);
-    match h {
-        HeadAnswer::Read(head) => read_frame(reading, bytes, head, out, store),
-        HeadAnswer::Refused(refusal) => ReadAnswer::Refused(refusal),
-    }
+    let head = header::read(reading, bytes, widest, highest)?;
+    read_frame(reading, bytes, head, out, store)
 }
 
 // How many samples a frame has.
-pub fn output_buffer_size(width: usize, height: usize) -> Amount
+pub fn output_buffer_size(width: usize, height: usize) -> Option<usize>
     ensures { result ≡ output_size width height }
 {
-    let area = amount::product(width, height);
-    match area {
-        Amount::Number(n) => amount::product(n, 3),
-        Amount::None => Amount::None,
-    }
+    width.checked_mul(height)?.checked_mul(3)
 }

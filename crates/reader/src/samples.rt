@@ -11,6 +11,7 @@ use places::Line;
 use steps::Reading;
 
 // A pixel's three samples from a place on.
+#[tactic(auto, using(steps::proofs::Laws::Place::put_three))]
 fn put_pixel(out: &mut [f32], o: usize, p: Pixel)
     requires { o + 3 ≤ length out.old }
     ensures { out.new ≡ spread 1 out.old o (three p []) }
@@ -25,24 +26,20 @@ fn put_samples(reading: Reading, store: &[u8], out: &mut [f32], from: usize, n: 
     requires { (4 * n ≤ length store.now) × (from + 3 * n ≤ length out.old) }
     ensures { out.new ≡ spread 1 out.old from (samples_from (pixel_by reading) store.now 0 n) }
 {
-    let mut i = 0;
-    let mut o = from;
-    let mut left = n;
-    while 0 < left {
-        put_pixel(out, o, pixel::from_bytes(reading, pixel::rgbe_at(store, i)));
-        i += 4;
-        o += 3;
-        left -= 1;
+    for i in 0..n {
+        let p = pixel::from_bytes(reading, pixel::rgbe_at(store, 4 * i));
+        put_pixel(out, from + 3 * i, p);
     }
 }
 
 // The place after one along a line, of three samples to a pixel; 0 where it would lie before the start.
+#[tactic(auto, using(crate::proofs::Laws::Samples::onward_back, crate::proofs::Laws::Samples::onward_on))]
 fn onward(back: bool, o: usize, stride: usize) -> usize
     requires { (o ≤ 12884705280) × (stride ≤ 196605) }
     ensures { result ≡ ahead back o stride 1 }
 {
     if back {
-        steps::less(o, stride)
+        o.saturating_sub(stride)
     } else {
         o + stride
     }
@@ -55,26 +52,19 @@ fn put_line(reading: Reading, store: &[u8], out: &mut [f32], line: Line, n: usiz
 {
     let stride = 3 * line.stride;
     let mut o = 3 * line.first;
-    let mut i = 0;
-    while i < n {
-        put_pixel(
-            out,
-            o,
-            pixel::from_bytes(reading, pixel::rgbe_at(store, 4 * i)),
-        );
+    for i in 0..n {
+        let p = pixel::from_bytes(reading, pixel::rgbe_at(store, 4 * i));
+        put_pixel(out, o, p);
         o = onward(line.back, o, stride);
-        i += 1;
     }
 }
 
 // Whether there are pixels, and the line has them one after another, as they are stored.
+#[tactic(auto, unfolding(crate::specs::Inner::is_along))]
 fn is_along(line: Line, n: usize) -> bool
     ensures { result ≡ is_along line n }
 {
-    if line.back {
-        return false;
-    }
-    line.stride == 1 && 0 < n
+    !line.back && line.stride == 1 && 0 < n
 }
 
 // The samples of the row store's first n pixels, to the output along a line: in one piece where it lies as the row is stored.

@@ -2,7 +2,10 @@
 use Prim.{Unit}
 use Prim.Native.Nat.{ℕ, ◌+◌, ◌-◌, ◌*◌, ◌^◌, ◌<◌, ◌≤◌}
 use mathlib.Core.Bool.{Bool}
-use mathlib.Core.List.{List}
+use mathlib.Core.List.{List, ◌++◌}
+use lib.ListN.{length, take, drop, replicate, length-replicate, length-take-le}
+use Rattle.steps.specs.Place.{spread}
+use Rattle.steps.proofs.Laws.Place.{spread_front}
 use mathlib.Core.Path.{◌≡◌, refl, sym, ap, subst, ◌∙◌}
 use native.Mathlib.Nat.{mul-le-mul, mul-le-mul_left, mul_left_comm}
 use native.Mathlib.Omega.{arith}
@@ -12,11 +15,14 @@ use lib.Ieee.{Float}
 use Rattle.steps.specs.Loop.{pick, run, Turn, more, halt}
 use Rattle.steps.specs.Answer.{Answer, done, refused}
 use Rattle.steps.proofs.Laws.Taken.{never_both}
-use Rattle.steps.specs.declared.Taken.{Taken}
-use Rattle.steps.specs.declared.Taken.TheVariants.{Done, Fault}
+use Rattle.steps.specs.Answer.{Taken}
+use Rattle.std.specs.Prelude.{Ok, Err}
+use Rattle.steps.specs.Refusal.{reason_number}
+use Rattle.steps.specs.declared.refusal.Reason.{Reason}
 use Rattle.steps.proofs.Laws.Loop.{Runs, runs_start, runs_more, runs_halt}
 use Rattle.steps.proofs.Laws.Turns.{by_test, Leads, run_keeps, Falls, never_out}
 use Rattle.words.specs.declared.axes.Orientation.{Orientation}
+use Rattle.places.specs.declared.Layout.{Layout}
 use Rattle.places.specs.declared.Line.{Line}
 use Rattle.places.specs.Places.{Stored, long_of, count_of, place_of}
 use Rattle.places.specs.Inner.{line_at, line_of}
@@ -24,10 +30,15 @@ use Rattle.places.proofs.Laws.Places.{either_small, line_place}
 use Rattle.places.proofs.Laws.Eight.{rearranged}
 use Rattle.rows_read.specs.Row.{RowRule}
 use Rattle.reader.specs.Samples.{SampleRule, placed}
-use Rattle.reader.specs.Frame.{stepped, step_of, Rows, rows, Left, after_step, row_turn, no_rows, rows_of}
+use Rattle.reader.specs.Frame.{cleared, stepped, step_of, Rows, rows, Left, after_step, row_turn, no_rows, rows_of}
 use Rattle.reader.proofs.Laws.Samples.{placed_same}
 
 -- ---- Places
+
+-- what a layout says is what the header says whose layout it is
+pub of_layout : {X : Type 0} (f : Orientation → ℕ → ℕ → X) (o : Orientation) (width height : ℕ) (layout : Layout) (x : X) → layout ≡ record { orientation = o; width = width; height = height }
+    → x ≡ f layout.orientation layout.width layout.height → x ≡ f o width height
+of_layout f o width height layout x is e = e ∙ ap (λ (l : Layout). f l.orientation l.width l.height) is
 
 -- a stored row's samples lie within those of all rows
 pub line_room : (o : Orientation) (width height k m n : ℕ) (line : Line) (count long : ℕ) → line ≡ line_of o width height k → count ≡ count_of o width height → k < count → width ≤ 65535 → height ≤ 65535 → height * (3 * width) ≤ m → n ≡ m → long ≡ long_of o width height
@@ -50,6 +61,14 @@ count_most columns width height n k e h l m = omega (arith, m, either_small colu
 pub area_fits : (width height : ℕ) → width ≤ 65535 → height ≤ 65535 → height * (3 * width) ≤ 65535 * (3 * 65535)
 area_fits width height h k = mul-le-mul k (mul-le-mul_left 3 h)
 
+-- the first bytes of the row store set to 0
+pub cleared_by : (long : ℕ) (store zeros : List ℕ) → zeros ≡ replicate (length (take (4 * long) store)) 0 → 4 * long ≤ length store → zeros ++ drop (4 * long) store ≡ cleared long store
+cleared_by long store zeros e h =
+    let all = length-take-le (4 * long) store h in
+    let size : length (replicate {A = ℕ} (4 * long) 0) ≡ 4 * long = length-replicate (4 * long) 0 in
+    let front : spread 1 store 0 (replicate (4 * long) 0) ≡ replicate (4 * long) 0 ++ drop (4 * long) store = rw size at (spread_front store (replicate (4 * long) 0) (rw size h)) in
+    rw (e, all) (sym front)
+
 -- ---- One step
 
 module _ (row_rule : RowRule) (rule : SampleRule) (long : ℕ) (place : ℕ → ℕ) (bytes : List ℕ) (at : ℕ) (out : List Float) (store : List ℕ)
@@ -58,11 +77,11 @@ module _ (row_rule : RowRule) (rule : SampleRule) (long : ℕ) (place : ℕ → 
   unfolding step_of
   stepped_by = ap (λ (z : Taken × List ℕ). stepped rule long place out z.0 z.1) e
 
-  pub step_fault : (number : ℕ) → t ≡ Fault number → (Fault number, out, store') ≡ step_of row_rule rule long place bytes at out store
-  step_fault number k = rw k at stepped_by
+  pub step_fault : (reason : Reason) → t ≡ Err reason → (Err reason, out, store') ≡ step_of row_rule rule long place bytes at out store
+  step_fault reason k = rw k at stepped_by
 
-  pub step_done : (next : ℕ) (out' : List Float) → t ≡ Done next → out' ≡ placed rule place store' 0 long out → (Done next, out', store') ≡ step_of row_rule rule long place bytes at out store
-  step_done next out' k es = ap (λ (l : List Float). (Done next, l, store')) es ∙ (rw k at stepped_by)
+  pub step_done : (next : ℕ) (out' : List Float) → t ≡ Ok next → out' ≡ placed rule place store' 0 long out → (Ok next, out', store') ≡ step_of row_rule rule long place bytes at out store
+  step_done next out' k es = ap (λ (l : List Float). (Ok next, l, store')) es ∙ (rw k at stepped_by)
 
 -- ---- What a step did, from its answer
 
@@ -82,20 +101,20 @@ module _ (row_rule : RowRule) (rule : SampleRule) (long : ℕ) (place : ℕ → 
   by_row L all = all (row_rule bytes at store long).0 (row_rule bytes at store long).1
 
   -- at fault: its row is, and the output is as it was
-  pub faulted : (number : ℕ) → (Fault number, o, s) ≡ step_of row_rule rule long place bytes at out store → ((Fault number, s) ≡ row_rule bytes at store long) × (o ≡ out)
-  faulted number = by_row (λ x y. ◌≡◌ {A = Answered} (Fault number, o, s) x → (◌≡◌ {A = OfRow} (Fault number, s) y) × (o ≡ out)) by_taken
+  pub faulted : (reason : Reason) → (Err reason, o, s) ≡ step_of row_rule rule long place bytes at out store → ((Err reason, s) ≡ row_rule bytes at store long) × (o ≡ out)
+  faulted reason = by_row (λ x y. ◌≡◌ {A = Answered} (Err reason, o, s) x → (◌≡◌ {A = OfRow} (Err reason, s) y) × (o ≡ out)) by_taken
     where
-      by_taken : (t : Taken) (s' : List ℕ) → (Fault number, o, s) ≡ stepped rule long place out t s' → (◌≡◌ {A = OfRow} (Fault number, s) (t, s')) × (o ≡ out)
-      by_taken (Done next) s' e = never_both next number (sym (ap (λ (z : Answered). z.0) e))
-      by_taken (Fault m) s' e = (ap row_of e, ap (λ (z : Answered). z.1) e)
+      by_taken : (t : Taken) (s' : List ℕ) → (Err reason, o, s) ≡ stepped rule long place out t s' → (◌≡◌ {A = OfRow} (Err reason, s) (t, s')) × (o ≡ out)
+      by_taken (Ok next) s' e = never_both next reason (sym (ap (λ (z : Answered). z.0) e))
+      by_taken (Err m) s' e = (ap row_of e, ap (λ (z : Answered). z.1) e)
 
   -- done: its row is read, and its samples are put
-  pub went_on : (next : ℕ) → (Done next, o, s) ≡ step_of row_rule rule long place bytes at out store → ((Done next, s) ≡ row_rule bytes at store long) × (o ≡ placed rule place s 0 long out)
-  went_on next = by_row (λ x y. ◌≡◌ {A = Answered} (Done next, o, s) x → (◌≡◌ {A = OfRow} (Done next, s) y) × (o ≡ placed rule place s 0 long out)) by_taken
+  pub went_on : (next : ℕ) → (Ok next, o, s) ≡ step_of row_rule rule long place bytes at out store → ((Ok next, s) ≡ row_rule bytes at store long) × (o ≡ placed rule place s 0 long out)
+  went_on next = by_row (λ x y. ◌≡◌ {A = Answered} (Ok next, o, s) x → (◌≡◌ {A = OfRow} (Ok next, s) y) × (o ≡ placed rule place s 0 long out)) by_taken
     where
-      by_taken : (t : Taken) (s' : List ℕ) → (Done next, o, s) ≡ stepped rule long place out t s' → (◌≡◌ {A = OfRow} (Done next, s) (t, s')) × (o ≡ placed rule place s 0 long out)
-      by_taken (Done m) s' e = (ap row_of e, ap (λ (z : Answered). z.1) e ∙ ap (λ (l : List ℕ). placed rule place l 0 long out) (sym (ap (λ (z : Answered). z.2) e)))
-      by_taken (Fault m) s' e = never_both next m (ap (λ (z : Answered). z.0) e)
+      by_taken : (t : Taken) (s' : List ℕ) → (Ok next, o, s) ≡ stepped rule long place out t s' → (◌≡◌ {A = OfRow} (Ok next, s) (t, s')) × (o ≡ placed rule place s 0 long out)
+      by_taken (Ok m) s' e = (ap row_of e, ap (λ (z : Answered). z.1) e ∙ ap (λ (l : List ℕ). placed rule place l 0 long out) (sym (ap (λ (z : Answered). z.2) e)))
+      by_taken (Err m) s' e = never_both next m (ap (λ (z : Answered). z.0) e)
 
 -- places that agree on the row's pixels give the same step
 pub step_same : (row_rule : RowRule) (rule : SampleRule) (long : ℕ) (p q : ℕ → ℕ) (bytes : List ℕ) (at : ℕ) (out : List Float) (store : List ℕ) → ((i : ℕ) → i < long → p i ≡ q i)
@@ -104,8 +123,8 @@ unfolding step_of
 step_same row_rule rule long p q bytes at out store h = by_taken (row_rule bytes at store long).0 (row_rule bytes at store long).1
   where
     by_taken : (t : Taken) (s : List ℕ) → stepped rule long p out t s ≡ stepped rule long q out t s
-    by_taken (Done next) s = ap (λ (l : List Float). (Done next, l, s)) (placed_same rule p q s 0 long out (λ c l m. h c (omega arith)))
-    by_taken (Fault number) s = refl
+    by_taken (Ok next) s = ap (λ (l : List Float). (Ok next, l, s)) (placed_same rule p q s 0 long out (λ c l m. h c (omega arith)))
+    by_taken (Err reason) s = refl
 
 -- ---- Rows
 
@@ -136,18 +155,18 @@ module _ (row_rule : RowRule) (rule : SampleRule) (bytes : List ℕ) (stored : S
       unfolding row_turn
       read_on = simp (lt-ltb row stored.count h) (ap (λ (z : Answered). after_step row z.0 z.1 z.2) (sym e))
 
-      pub rows_fault : (number : ℕ) → t ≡ Fault number → (refused number row, out', store') ≡ a
-      rows_fault number k = runs_halt r (read_on ∙ rw k)
+      pub rows_fault : (reason : Reason) → t ≡ Err reason → (refused (reason_number reason) row, out', store') ≡ a
+      rows_fault reason k = runs_halt r (read_on ∙ rw k)
 
-      pub rows_again : (at : ℕ) → t ≡ Done at → Runs (row_turn row_rule rule bytes stored) no_rows (stored.count - (row + 1)) (rows at (row + 1) store' out') a
+      pub rows_again : (at : ℕ) → t ≡ Ok at → Runs (row_turn row_rule rule bytes stored) no_rows (stored.count - (row + 1)) (rows at (row + 1) store' out') a
       rows_again at k = runs_more r (read_on ∙ rw k) (omega arith)
 
   -- a turn, case by case
   pub rows_cases : (x : Rows) (L : Turn Rows Left → Type 0)
       → ((at : ℕ) (out : List Float) (store : List ℕ) → x.row < stored.count
-      → (Done at, out, store) ≡ step_of row_rule rule stored.long (stored.place x.row) bytes x.at x.out x.store → L (more (rows at (x.row + 1) store out)))
-      → ((number : ℕ) (out : List Float) (store : List ℕ) → x.row < stored.count
-      → (Fault number, out, store) ≡ step_of row_rule rule stored.long (stored.place x.row) bytes x.at x.out x.store → L (halt (refused number x.row, out, store)))
+      → (Ok at, out, store) ≡ step_of row_rule rule stored.long (stored.place x.row) bytes x.at x.out x.store → L (more (rows at (x.row + 1) store out)))
+      → ((reason : Reason) (out : List Float) (store : List ℕ) → x.row < stored.count
+      → (Err reason, out, store) ≡ step_of row_rule rule stored.long (stored.place x.row) bytes x.at x.out x.store → L (halt (refused (reason_number reason) x.row, out, store)))
       → (stored.count ≤ x.row → L (halt (done x.at, x.out, x.store))) → L (row_turn row_rule rule bytes stored x)
   unfolding row_turn
   rows_cases x L next faults end =
@@ -156,8 +175,8 @@ module _ (row_rule : RowRule) (rule : SampleRule) (bytes : List ℕ) (stored : S
     where
       after : x.row < stored.count → (t : Taken) (o : List Float) (s : List ℕ)
           → (t, o, s) ≡ step_of row_rule rule stored.long (stored.place x.row) bytes x.at x.out x.store → L (after_step x.row t o s)
-      after h (Done at) o s e = next at o s h e
-      after h (Fault number) o s e = faults number o s h e
+      after h (Ok at) o s e = next at o s h e
+      after h (Err reason) o s e = faults reason o s h e
 
   -- the turns are never used up: each row takes one, and there is one for each and one for the end
   pub rows_never_out : (at : ℕ) (out : List Float) (store : List ℕ) (other : Rows → Left)
@@ -165,10 +184,10 @@ module _ (row_rule : RowRule) (rule : SampleRule) (bytes : List ℕ) (stored : S
   unfolding rows_of
   rows_never_out at out store other =
       let μ : Rows → ℕ = λ x. stored.count - x.row in
-      never_out (row_turn row_rule rule bytes stored) no_rows other μ (λ x. rows_cases x (Falls μ x) (λ at o s h e. omega arith) (λ number o s h e. tt) (λ h. tt)) _ _ (omega arith)
+      never_out (row_turn row_rule rule bytes stored) no_rows other μ (λ x. rows_cases x (Falls μ x) (λ at o s h e. omega arith) (λ reason o s h e. tt) (λ h. tt)) _ _ (omega arith)
 
   -- a refusal of the rows is a row's own, with the number that its rule gave
-  pub rows_faults : (P : ℕ → Type 0) → ((at : ℕ) (s : List ℕ) (number : ℕ) (s' : List ℕ) → (Fault number, s') ≡ row_rule bytes at s stored.long → P number)
+  pub rows_faults : (P : ℕ → Type 0) → ((at : ℕ) (s : List ℕ) (reason : Reason) (s' : List ℕ) → (Err reason, s') ≡ row_rule bytes at s stored.long → P (reason_number reason))
       → (at : ℕ) (out : List Float) (store : List ℕ) (number row : ℕ) → (rows_of row_rule rule bytes stored at out store).0 ≡ refused number row → P number
   rows_faults P given at out store number row e =
       let kept = run_keeps (row_turn row_rule rule bytes stored) none (λ x. Unit {0}) (λ (z : Left). By P z.0)

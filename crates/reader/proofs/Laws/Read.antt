@@ -1,21 +1,19 @@
 -- The laws that proofs use of `specs/Read.antt`, over any rules.
-use Prim.Native.Nat.{ℕ, ◌+◌, ◌-◌, ◌*◌, ◌<◌, ◌≤◌}
+use Prim.Native.Nat.{ℕ, ◌+◌, ◌-◌, ◌*◌, ◌^◌, ◌<◌, ◌≤◌}
 use mathlib.Core.Path.{◌≡◌, refl, sym, ap, ◌∙◌}
 use native.Mathlib.Omega.{arith}
 use borrow.Author.Tests.{lt-ltb, le-ltb, eq-eqb, ne_eqb}
 use mathlib.Core.List.{List}
 use lib.ListN.{length}
 use lib.Ieee.{Float}
-use Rattle.steps.specs.Answer.{Answer, done, refused, refuse, refusal_of, checked}
+use Rattle.steps.specs.Answer.{Answer, done, refused, refuse, refusal_of, paper_of, checked}
+use Rattle.std.specs.Option.{SomeIff}
 use Rattle.steps.specs.Amount.{amount_of}
 use Rattle.steps.proofs.Laws.Loop.{Runs}
 use Rattle.steps.specs.declared.refusal.Refusal.{Refusal}
-use Rattle.steps.proofs.Laws.Answer.{passed, pass, failed, checked_append, call_of, one_answer}
-use Rattle.header.specs.Head as header
+use Rattle.steps.proofs.Laws.Answer.{passed, pass, failed, checked_append, one_answer}
 use Rattle.header.specs.Head.{HeaderPromise, header_of, head_checks, head_in, taking}
 use Rattle.header.specs.declared.Head.{Head}
-use Rattle.header.specs.declared.HeadAnswer.{HeadAnswer}
-use Rattle.header.specs.declared.HeadAnswer.TheVariants.{Read, Refused}
 use Rattle.header.proofs.Laws.Head.{header_limits}
 use Rattle.steps.specs.declared.Reading.{Reading}
 use Rattle.places.specs.declared.Line.{Line}
@@ -25,18 +23,16 @@ use Rattle.places.specs.Inner.{line_at, line_of}
 use Rattle.places.proofs.Laws.Places.{line_place}
 use Rattle.rows_read.specs.Row.{RowRule, row_of, RowFault}
 use Rattle.rows_read.proofs.Laws.Faults.{reading_faults}
-use Rattle.steps.specs.declared.Taken.{Taken}
-use Rattle.steps.specs.declared.Taken.TheVariants.{Done, Fault}
+use Rattle.steps.specs.Answer.{Taken}
+use Rattle.std.specs.Prelude.{Result, Ok, Err, Option, Some, None}
+use Rattle.steps.specs.Refusal.{reason_number}
+use Rattle.steps.specs.declared.refusal.Reason.{Reason}
 use Rattle.reader.specs.Samples.{SampleRule}
 use Rattle.reader.specs.Frame.{stored_of, cleared, step_of, Left, rows, row_turn, no_rows, rows_of}
-use Rattle.reader.specs.Read.{pixel_by, framed, read_by, paper_of, ReadPromiseBy, ReadPromise}
+use Rattle.reader.specs.Read.{pixel_by, framed, read_by, ReadPromiseBy, ReadPromise}
 use Rattle.reader.specs.Inner.{frame_answer}
-use Rattle.reader.specs.declared.ReadAnswer.{ReadAnswer}
-use Rattle.reader.specs.declared.ReadAnswer.TheVariants as read
 use Rattle.reader.proofs.Laws.Frame.{step_same, rows_done, rows_fault, rows_again, rows_faults}
-use Rattle.steps.proofs.Laws.Amount.{amount_is, amount_passes}
-use Rattle.steps.specs.declared.amount.Amount.{Amount}
-use Rattle.steps.specs.declared.amount.Amount.TheVariants.{Number, None}
+use Rattle.steps.proofs.Laws.Amount.{amount_by, amount_passes}
 
 -- ---- The rows of a file whose header says `head`
 
@@ -54,10 +50,10 @@ module _ (row_rule : RowRule) (rule : SampleRule) (bytes : List ℕ) (o : Orient
   before_last : row < count_of o width height
   before_last = rw many at h
 
-  pub frame_fault : (head : Head) (number : ℕ) → t ≡ Fault number → (refused number row, out', store') ≡ framed head a
-  frame_fault head number k = ap (framed head) (rows_fault row_rule rule bytes (stored_by o width height) p row store out a r before_last t out' store' there number k)
+  pub frame_fault : (head : Head) (reason : Reason) → t ≡ Err reason → (refused (reason_number reason) row, out', store') ≡ framed head a
+  frame_fault head reason k = ap (framed head) (rows_fault row_rule rule bytes (stored_by o width height) p row store out a r before_last t out' store' there reason k)
 
-  pub frame_again : (at : ℕ) → t ≡ Done at → Runs (row_turn row_rule rule bytes (stored_by o width height)) no_rows (count_of o width height - (row + 1)) (rows at (row + 1) store' out') a
+  pub frame_again : (at : ℕ) → t ≡ Ok at → Runs (row_turn row_rule rule bytes (stored_by o width height)) no_rows (count_of o width height - (row + 1)) (rows at (row + 1) store' out') a
   frame_again at k = rows_again row_rule rule bytes (stored_by o width height) p row store out a r before_last t out' store' there at k
 
 -- the last
@@ -72,14 +68,13 @@ pub rows_number : (reading : Reading) (rule : SampleRule) (bytes : List ℕ) (st
 rows_number reading rule bytes stored at out store number row e =
     rows_faults (row_of reading) rule bytes stored (RowFault reading) (λ at s n s' f. reading_faults reading bytes at s stored.long n s' f) at out store number row e
 
--- ---- How many samples a frame has
+-- ---- How many samples a frame has: where the area passes 2^64 - 1, so does three times the area
 
-module _ (width height : ℕ) (area : Amount) (is : area ≡ amount_of (width * height)) where
-  pub samples_none : area ≡ None → None ≡ amount_of (width * height * 3)
-  samples_none k = amount_passes (width * height) area is (width * height * 3) k (omega arith)
+pub samples_none : (width height : ℕ) → (width * height < 2 ^ 64 → ⊥) → None ≡ amount_of (width * height * 3)
+samples_none width height h = amount_passes (width * height) (width * height * 3) h (omega arith)
 
-  pub samples_number : (n : ℕ) (a : Amount) → area ≡ Number n → a ≡ amount_of (n * 3) → a ≡ amount_of (width * height * 3)
-  samples_number n a k e = rw (← amount_is (width * height) area is n k) e
+pub samples_number : (width height n : ℕ) (a : Option ℕ) → n ≡ width * height → SomeIff a (n * 3 < 2 ^ 64) (n * 3) → a ≡ amount_of (width * height * 3)
+samples_number width height n a e h = rw (← e) (amount_by (n * 3) a h)
 
 -- ---- The checks 6 to 8
 
@@ -107,48 +102,41 @@ module _ (row_rule : RowRule) (rule : SampleRule) (bytes : List ℕ) (head : Hea
           let room : 4 * (stored_of head).long ≤ length store = rw wide at h in
           e ∙ rw (es, wide) (simp (le-ltb (length out) (head.height * (3 * head.width)) h6, ne_eqb head.width 0 h7, le-ltb (length store) (4 * (stored_of head).long) room))
 
--- ---- The whole file
+-- ---- The whole file, from what its header says
 
-module _ (reading : Reading) (row_rule : RowRule) (rule : SampleRule) (bytes : List ℕ) (widest highest : ℕ) (out : List Float) (store : List ℕ) (h : HeadAnswer) (is : HeaderPromise reading bytes widest highest h) where
+module _ (reading : Reading) (row_rule : RowRule) (rule : SampleRule) (bytes : List ℕ) (widest highest : ℕ) (out : List Float) (store : List ℕ) (told : Answer Head) (is : told ≡ header_of reading bytes widest highest) where
   split : read_by reading row_rule rule bytes widest highest out store
       ≡ checked (λ n. (refuse n, out, store)) (head_checks reading bytes widest highest) (frame_answer row_rule rule bytes (head_in reading bytes) out store)
   unfolding read_by frame_answer
   split = checked_append (λ n. (refuse n, out, store)) (head_checks reading bytes widest highest) _ _
 
-  pub read_refused : (refusal : Refusal) → h ≡ Refused refusal → (refusal_of refusal, out, store) ≡ read_by reading row_rule rule bytes widest highest out store
+  pub read_refused : (number place : ℕ) → told ≡ refused number place → (refused number place, out, store) ≡ read_by reading row_rule rule bytes widest highest out store
   unfolding header_of
-  read_refused refusal k =
+  read_refused number place k =
       let both = failed (λ n. (refuse n, out, store)) (head_checks reading bytes widest highest) (head_in reading bytes) (frame_answer row_rule rule bytes (head_in reading bytes) out store)
-      refusal.number refusal.place (sym is ∙ ap header.paper_of k) in
-      ap (λ (place : ℕ). (refused refusal.number place, out, store)) both.0 ∙ sym (split ∙ both.1)
+      number place (sym is ∙ k) in
+      ap (λ (p : ℕ). (refused number p, out, store)) both.0 ∙ sym (split ∙ both.1)
 
-  pub read_frame : (head : Head) (a : Answer Head × List Float × List ℕ) → h ≡ Read head → a ≡ frame_answer row_rule rule bytes head out store
+  pub read_frame : (head : Head) (a : Answer Head × List Float × List ℕ) → told ≡ done head → a ≡ frame_answer row_rule rule bytes head out store
       → a ≡ read_by reading row_rule rule bytes widest highest out store
   unfolding header_of
   read_frame head a k e =
-      let both = passed (head_checks reading bytes widest highest) (head_in reading bytes) head (sym is ∙ ap header.paper_of k) in
+      let both = passed (head_checks reading bytes widest highest) (head_in reading bytes) head (sym is ∙ k) in
       e ∙ ap (λ (x : Head). frame_answer row_rule rule bytes x out store) (sym both.1) ∙ sym (split ∙ pass (λ n. (refuse n, out, store)) (head_checks reading bytes widest highest) _ both.0)
 
-pub read_limits : (reading : Reading) (bytes : List ℕ) (widest highest : ℕ) (h : HeadAnswer) (head : Head) → HeaderPromise reading bytes widest highest h → h ≡ Read head
+pub read_limits : (reading : Reading) (bytes : List ℕ) (widest highest : ℕ) (told : Result Head Refusal) (head : Head) → HeaderPromise reading bytes widest highest told → told ≡ Ok head
     → (head.width ≤ 65535) × (head.height ≤ 65535)
-read_limits reading bytes widest highest h head is k = header_limits reading bytes widest highest head (sym is ∙ ap header.paper_of k)
+read_limits reading bytes widest highest told head is k = header_limits reading bytes widest highest head (sym is ∙ ap paper_of k)
 
 -- ---- One answer
 
-call_same : (a : ReadAnswer) → call_of read.Done read.Refused (paper_of a) ≡ a
-call_same (read.Done x) = refl
-call_same (read.Refused refusal) = refl
-
-by_paper : (a b : ReadAnswer) → paper_of a ≡ paper_of b → a ≡ b
-by_paper = one_answer read.Done read.Refused paper_of call_same
-
 -- two answers that meet the promise of a reader by the same reading and rules are equal
-pub read_once_by : (reading : Reading) (row_rule : RowRule) (rule : SampleRule) (bytes : List ℕ) (widest highest : ℕ) (out : List Float) (store : List ℕ) (a b : ReadAnswer) (o o' : List Float) (s s' : List ℕ)
+pub read_once_by : (reading : Reading) (row_rule : RowRule) (rule : SampleRule) (bytes : List ℕ) (widest highest : ℕ) (out : List Float) (store : List ℕ) (a b : Result Head Refusal) (o o' : List Float) (s s' : List ℕ)
     → ReadPromiseBy reading row_rule rule bytes widest highest out store a o s → ReadPromiseBy reading row_rule rule bytes widest highest out store b o' s' → (a ≡ b) × (o ≡ o') × (s ≡ s')
 read_once_by reading row_rule rule bytes widest highest out store a b o o' s s' p q =
     let e = p ∙ sym q in
-    (by_paper a b (ap (λ (z : Answer Head × List Float × List ℕ). z.0) e), ap (λ (z : Answer Head × List Float × List ℕ). z.1) e, ap (λ (z : Answer Head × List Float × List ℕ). z.2) e)
+    (one_answer a b (ap (λ (z : Answer Head × List Float × List ℕ). z.0) e), ap (λ (z : Answer Head × List Float × List ℕ). z.1) e, ap (λ (z : Answer Head × List Float × List ℕ). z.2) e)
 
-pub read_once : (reading : Reading) (bytes : List ℕ) (widest highest : ℕ) (out : List Float) (store : List ℕ) (a b : ReadAnswer) (o o' : List Float) (s s' : List ℕ)
+pub read_once : (reading : Reading) (bytes : List ℕ) (widest highest : ℕ) (out : List Float) (store : List ℕ) (a b : Result Head Refusal) (o o' : List Float) (s s' : List ℕ)
     → ReadPromise reading bytes widest highest out store a o s → ReadPromise reading bytes widest highest out store b o' s' → (a ≡ b) × (o ≡ o') × (s ≡ s')
 read_once reading = read_once_by reading (row_of reading) (pixel_by reading)

@@ -1,14 +1,16 @@
 -- The laws that proofs use of `specs/Samples.antt`: samples that are put one after another.
 use Prim.Native.Nat.{ℕ, zero, suc, ◌+◌, ◌-◌, ◌*◌, ◌<◌, ◌≤◌}
 use mathlib.Core.Bool.{Bool, true, false, not, ◌&&◌}
-use mathlib.Core.List.{List, []}
+use mathlib.Core.List.{List, [], ◌++◌}
 use mathlib.Core.Path.{◌≡◌, refl, sym, ap, ◌∙◌}
-use native.Mathlib.Nat.{not-suc-le-zero, zero-mul, one-mul, mul-one, suc-mul}
+use native.Mathlib.Nat.{zero-mul, one-mul, mul-one, suc-mul}
 use native.Mathlib.Numerals.{add-one}
 use native.Mathlib.Omega.{arith}
 use borrow.Author.Tests.{ltb-true, eqb-true, eq-eqb, ne_eqb}
 use lib.Dec.{ltb, eqb}
 use lib.Ieee.{Float}
+use lib.ListN.{length}
+use Rattle.steps.proofs.Laws.Place.{spread_then}
 use Rattle.steps.proofs.Laws.Turns.{and_left, and_right}
 use Rattle.pixel.specs.declared.Pixel.{Pixel}
 use Rattle.pixel.specs.declared.Rgbe.{Rgbe}
@@ -21,26 +23,31 @@ use Rattle.reader.specs.Samples.{SampleRule, three, placed}
 use Rattle.reader.specs.Read.{pixel_by}
 use Rattle.reader.specs.Inner.{samples_from, Room, is_along}
 
--- one pixel's samples, and the rest
-samples_again : (rule : SampleRule) (store : List ℕ) (out out' w : List Float) (i o n : ℕ) (q : Rgbe) (p : Pixel) → spread 1 out o (samples_from rule store i n) ≡ w → 0 < n
-    → q ≡ rgbe_at store i → p ≡ rule q → out' ≡ spread 1 out o (three p []) → spread 1 out' (o + 3) (samples_from rule store (i + 4) (n - 1)) ≡ w
-unfolding spread samples_from
-samples_again rule store out out' w i o zero q p e h eq ep eo = absurd (not-suc-le-zero h)
-samples_again rule store out out' w i o (suc n) q p e h eq ep eo =
-    let k : suc n - 1 ≡ n = omega arith in
-    let j : o + 3 ≡ o + 1 + 1 + 1 = omega arith in
-    rw (eo, ep, eq, k, j) e
+-- the samples of one pixel more
+samples_snoc : (rule : SampleRule) (store : List ℕ) (i n : ℕ) → samples_from rule store i n ++ three (rule (rgbe_at store (i + 4 * n))) [] ≡ samples_from rule store i (suc n)
+unfolding samples_from
+samples_snoc rule store i zero = let here : i + 4 * 0 ≡ i = omega arith in rw here
+samples_snoc rule store i (suc n) =
+    let here : i + 4 * suc n ≡ i + 4 + 4 * n = omega arith in
+    rw here (ap (three (rule (rgbe_at store i))) (samples_snoc rule store (i + 4) n))
 
--- the same by a reading
-pub pixels_again : (reading : Reading) (store : List ℕ) (out out' w : List Float) (i o n : ℕ) (q : Rgbe) (p : Pixel) → spread 1 out o (samples_from (pixel_by reading) store i n) ≡ w → 0 < n
-    → q ≡ rgbe_at store i → p ≡ pixel_of (units_of reading) q → out' ≡ spread 1 out o (three p []) → spread 1 out' (o + 3) (samples_from (pixel_by reading) store (i + 4) (n - 1)) ≡ w
+length_samples : (rule : SampleRule) (store : List ℕ) (i n : ℕ) → length (samples_from rule store i n) ≡ 3 * n
+unfolding samples_from
+length_samples rule store i zero = refl
+length_samples rule store i (suc n) = let e : 3 * suc n ≡ suc (suc (suc (3 * n))) = omega arith in rw e (ap (λ (k : ℕ). suc (suc (suc k))) (length_samples rule store (i + 4) n))
+
+-- one pixel more, by a reading: what is stored is the samples of the first k pixels
+pub samples_next : (reading : Reading) (store : List ℕ) (out out' out'' : List Float) (from k o : ℕ) (q : Rgbe) (p : Pixel) → out' ≡ spread 1 out from (samples_from (pixel_by reading) store 0 k)
+    → o ≡ from + 3 * k → q ≡ rgbe_at store (4 * k) → p ≡ pixel_of (units_of reading) q → out'' ≡ spread 1 out' o (three p []) → out'' ≡ spread 1 out from (samples_from (pixel_by reading) store 0 (k + 1))
 unfolding pixel_by
-pixels_again reading = samples_again (pixel_by reading)
+samples_next reading store out out' out'' from k o q p e eo eq ep ee =
+    let place : o ≡ from + length (samples_from (pixel_by reading) store 0 k) = rw (length_samples (pixel_by reading) store 0 k) eo in
+    let here : 4 * k ≡ 0 + 4 * k = omega arith in
+    rw (ee, ep, eq, add-one k, here) (sym (spread_then out out' from o _ _ e place) ∙ ap (spread 1 out from) (samples_snoc (pixel_by reading) store 0 k))
 
-pub samples_end : (rule : SampleRule) (store : List ℕ) (out w : List Float) (i o n : ℕ) → spread 1 out o (samples_from rule store i n) ≡ w → n ≤ 0 → out ≡ w
+pub samples_start : (rule : SampleRule) (store : List ℕ) (out : List Float) (from : ℕ) → out ≡ spread 1 out from (samples_from rule store 0 0)
 unfolding spread samples_from
-samples_end rule store out w i o zero e h = e
-samples_end rule store out w i o (suc n) e h = absurd (not-suc-le-zero h)
+samples_start rule store out from = refl
 
 -- ---- Pixels that are put one by one, each to its place
 
@@ -52,27 +59,24 @@ first_by true first stride = omega (arith, zero-mul stride)
 pub first_ahead : (line : Line) → 3 * line.first ≡ 3 * line_at line 0
 first_ahead line = first_by line.back line.first line.stride
 
-pub placed_start : (rule : SampleRule) (place : ℕ → ℕ) (store : List ℕ) (n : ℕ) (out : List Float) → placed rule place store 0 (n - 0) out ≡ placed rule place store 0 n out
-placed_start rule place store n out = let all : n - 0 ≡ n = omega arith in rw all
-
--- one pixel, and the rest
-placed_again : (rule : SampleRule) (place : ℕ → ℕ) (store : List ℕ) (out out' w : List Float) (i n : ℕ) (q : Rgbe) (p : Pixel) → placed rule place store i n out ≡ w → 0 < n
-    → q ≡ rgbe_at store (4 * i) → p ≡ rule q → out' ≡ spread 1 out (3 * place i) (three p []) → placed rule place store (i + 1) (n - 1) out' ≡ w
+pub placed_start : (rule : SampleRule) (place : ℕ → ℕ) (store : List ℕ) (out : List Float) → out ≡ placed rule place store 0 0 out
 unfolding placed
-placed_again rule place store out out' w i zero q p e h eq ep eo = absurd (not-suc-le-zero h)
-placed_again rule place store out out' w i (suc n) q p e h eq ep eo = let k : suc n - 1 ≡ n = omega arith in rw (eo, ep, eq, k) e
+placed_start rule place store out = refl
+
+-- one pixel more
+placed_snoc : (rule : SampleRule) (place : ℕ → ℕ) (store : List ℕ) (i n : ℕ) (out : List Float)
+    → spread 1 (placed rule place store i n out) (3 * place (i + n)) (three (rule (rgbe_at store (4 * (i + n)))) []) ≡ placed rule place store i (suc n) out
+unfolding placed
+placed_snoc rule place store i zero out = let here : i + 0 ≡ i = omega arith in rw here
+placed_snoc rule place store i (suc n) out = let here : i + suc n ≡ i + 1 + n = omega arith in rw here (placed_snoc rule place store (i + 1) n _)
 
 -- the same along a line, by a reading
-pub line_again : (reading : Reading) (line : Line) (store : List ℕ) (out out' w : List Float) (i n o : ℕ) (q : Rgbe) (p : Pixel) → placed (pixel_by reading) (line_at line) store i (n - i) out ≡ w → i < n
-    → q ≡ rgbe_at store (4 * i) → p ≡ pixel_of (units_of reading) q → o ≡ 3 * line_at line i → out' ≡ spread 1 out o (three p []) → placed (pixel_by reading) (line_at line) store (i + 1) (n - (i + 1)) out' ≡ w
+pub line_next : (reading : Reading) (line : Line) (store : List ℕ) (out out' out'' : List Float) (k o : ℕ) (q : Rgbe) (p : Pixel) → out' ≡ placed (pixel_by reading) (line_at line) store 0 k out
+    → o ≡ 3 * line_at line k → q ≡ rgbe_at store (4 * k) → p ≡ pixel_of (units_of reading) q → out'' ≡ spread 1 out' o (three p []) → out'' ≡ placed (pixel_by reading) (line_at line) store 0 (k + 1) out
 unfolding pixel_by
-line_again reading line store out out' w i n o q p e h eq ep es eo =
-    let k : n - i - 1 ≡ n - (i + 1) = omega arith in
-    rw k at (placed_again (pixel_by reading) (line_at line) store out out' w i (n - i) q p e (omega arith) eq ep (eo ∙ rw es))
-
-pub line_end : (rule : SampleRule) (place : ℕ → ℕ) (store : List ℕ) (out w : List Float) (i n : ℕ) → placed rule place store i (n - i) out ≡ w → n ≤ i → out ≡ w
-unfolding placed
-line_end rule place store out w i n e h = let none : n - i ≡ 0 = omega arith in rw none at e
+line_next reading line store out out' out'' k o q p e eo eq ep ee =
+    let here : 0 + k ≡ k = omega arith in
+    rw (ee, ep, eq, eo, e, add-one k) (rw here at (placed_snoc (pixel_by reading) (line_at line) store 0 k out))
 
 -- the next place along a line, of three samples to a pixel
 next_by : (back : Bool) (first stride i o s r : ℕ) → o ≡ 3 * ahead back first stride i → s ≡ 3 * stride → r ≡ ahead back o s 1 → r ≡ 3 * ahead back first stride (i + 1)

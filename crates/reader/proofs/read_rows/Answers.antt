@@ -1,26 +1,41 @@
 -- `reader::read_rows` meets its contract. The invariant: running the definition from here gives what it gives from the start.
-use borrow.Author.Rules.{rules}
-use mathlib.Core.Path.{refl}
 use native.Mathlib.Omega.{arith}
+use Rattle.places.specs.Places.{long_of, count_of}
+use Rattle.places.specs.Inner.{line_of}
 use Rattle.places.proofs.Laws.Places.{either_small}
-use Rattle.reader.proofs.Laws.Frame.{rows_start, line_room, count_most}
+use Rattle.reader.proofs.Laws.Frame.{of_layout, rows_start, line_room, count_most}
 use Rattle.reader.proofs.Laws.Read.{frame_done, frame_fault, frame_again}
 use Rattle.reader.proofs.read_rows.Goals as goal
 
 pub loop-k-init : goal.loop-k-init
-loop-k-init c = (search rules, search rules, search rows_start)
+loop-k-init c = search rows_start
 
-pub line_of-line-requires : goal.line_of-line-requires
-line_of-line-requires c = (search rules, search rules, search count_most)
+pub step-requires : goal.step-requires
+step-requires c =
+    let long = of_layout long_of _ _ _ _ _ c.layout_of-layout.ensures c.long-long.ensures in
+    let count = of_layout count_of _ _ _ _ _ c.layout_of-layout.ensures c.count-count.ensures in
+    let line = of_layout (λ o width height. line_of o width height c.loop-k.k) _ _ _ _ _ c.layout_of-layout.ensures c.line-line.ensures.0 in
+    (
+      omega (arith, c.requires.0, long, c.loop-k.auto.store),
+      search (either_small, long, c.requires.2, c.requires.3),
+      (c.line-line.ensures.1, c.line-line.ensures.2, λ i l. line_room _ _ _ _ _ _ _ _ _ line count c.loop-k-test.true c.requires.2 c.requires.3 c.requires.1 c.loop-k.auto.out long i l),
+    )
 
-pub step-t-requires : goal.step-t-requires
-step-t-requires c = (omega (arith, c.requires.0, c.long-long.ensures, c.loop-k.invariant.0), search either_small, (c.line_of-line.ensures.1, c.line_of-line.ensures.2, λ i l. line_room _ _ _ _ _ _ _ _ _ c.line_of-line.ensures.0 c.count-count.ensures c.loop-k-test.true c.requires.2 c.requires.3 c.requires.1 c.loop-k.invariant.1 c.long-long.ensures i l))
-
-pub returns-in-Fault : goal.returns-in-Fault
-returns-in-Fault c = search (frame_fault, c.loop-k.invariant.2, c.count-count.ensures, c.line_of-line.ensures.0, c.loop-k-test.true, c.long-long.ensures, c.in-Fault.ensures, refl)
+pub returns-in-Err : goal.returns-in-Err
+returns-in-Err c =
+    let long = of_layout long_of _ _ _ _ _ c.layout_of-layout.ensures c.long-long.ensures in
+    let count = of_layout count_of _ _ _ _ _ c.layout_of-layout.ensures c.count-count.ensures in
+    let line = of_layout (λ o width height. line_of o width height c.loop-k.k) _ _ _ _ _ c.layout_of-layout.ensures c.line-line.ensures.0 in
+    frame_fault _ _ _ _ _ _ _ _ _ _ _ c.loop-k.invariant _ count _ line c.loop-k-test.true _ _ _ _ long c.step.ensures c.args.head c.in-Err.reason c.in-Err.is
 
 pub loop-k-preserved : goal.loop-k-preserved
-loop-k-preserved c = (search rules, search rules, frame_again _ _ _ _ _ _ _ _ _ _ _ c.loop-k.invariant.2 _ c.count-count.ensures _ c.line_of-line.ensures.0 c.loop-k-test.true _ _ _ _ c.long-long.ensures c.in-Done.ensures _ refl)
+loop-k-preserved c =
+    let long = of_layout long_of _ _ _ _ _ c.layout_of-layout.ensures c.long-long.ensures in
+    let count = of_layout count_of _ _ _ _ _ c.layout_of-layout.ensures c.count-count.ensures in
+    let line = of_layout (λ o width height. line_of o width height c.loop-k.k) _ _ _ _ _ c.layout_of-layout.ensures c.line-line.ensures.0 in
+    frame_again _ _ _ _ _ _ _ _ _ _ _ c.loop-k.invariant _ count _ line c.loop-k-test.true _ _ _ _ long c.step.ensures c.in-Ok.next c.in-Ok.is
 
 pub returns : goal.returns
-returns c = search frame_done
+returns c =
+    let count = of_layout count_of _ _ _ _ _ c.layout_of-layout.ensures c.count-count.ensures in
+    search (frame_done, count)
