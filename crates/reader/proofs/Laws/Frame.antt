@@ -3,7 +3,7 @@ use Prim.{Unit}
 use Prim.Native.Nat.{ℕ, ◌+◌, ◌-◌, ◌*◌, ◌^◌, ◌<◌, ◌≤◌}
 use mathlib.Core.Bool.{Bool}
 use mathlib.Core.List.{List, ◌++◌}
-use lib.ListN.{length, take, drop, replicate, length-replicate, length-take-le}
+use lib.ListN.{length, take, drop, replicate, length-replicate, length-take}
 use Rattle.steps.specs.Place.{spread}
 use Rattle.steps.proofs.Laws.Place.{spread_front}
 use mathlib.Core.Path.{◌≡◌, refl, sym, ap, subst, ◌∙◌}
@@ -64,7 +64,7 @@ area_fits width height h k = mul-le-mul k (mul-le-mul_left 3 h)
 -- the first bytes of the row store set to 0
 pub cleared_by : (long : ℕ) (store zeros : List ℕ) → zeros ≡ replicate (length (take (4 * long) store)) 0 → 4 * long ≤ length store → zeros ++ drop (4 * long) store ≡ cleared long store
 cleared_by long store zeros e h =
-    let all = length-take-le (4 * long) store h in
+    let all : length (take (4 * long) store) ≡ 4 * long = omega (arith, length-take (4 * long) store) in
     let size : length (replicate {A = ℕ} (4 * long) 0) ≡ 4 * long = length-replicate (4 * long) 0 in
     let front : spread 1 store 0 (replicate (4 * long) 0) ≡ replicate (4 * long) 0 ++ drop (4 * long) store = rw size at (spread_front store (replicate (4 * long) 0) (rw size h)) in
     rw (e, all) (sym front)

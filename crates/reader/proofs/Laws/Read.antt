@@ -1,12 +1,12 @@
 -- The laws that proofs use of `specs/Read.antt`, over any rules.
 use Prim.Native.Nat.{ℕ, ◌+◌, ◌-◌, ◌*◌, ◌^◌, ◌<◌, ◌≤◌}
-use mathlib.Core.Path.{◌≡◌, refl, sym, ap, ◌∙◌}
+use mathlib.Core.Path.{◌≡◌, sym, ap, ◌∙◌}
 use native.Mathlib.Omega.{arith}
 use borrow.Author.Tests.{lt-ltb, le-ltb, eq-eqb, ne_eqb}
 use mathlib.Core.List.{List}
 use lib.ListN.{length}
 use lib.Ieee.{Float}
-use Rattle.steps.specs.Answer.{Answer, done, refused, refuse, refusal_of, paper_of, checked}
+use Rattle.steps.specs.Answer.{Answer, done, refused, refuse, paper_of, checked}
 use Rattle.std.specs.Option.{SomeIff}
 use Rattle.steps.specs.Amount.{amount_of}
 use Rattle.steps.proofs.Laws.Loop.{Runs}
@@ -24,7 +24,7 @@ use Rattle.places.proofs.Laws.Places.{line_place}
 use Rattle.rows_read.specs.Row.{RowRule, row_of, RowFault}
 use Rattle.rows_read.proofs.Laws.Faults.{reading_faults}
 use Rattle.steps.specs.Answer.{Taken}
-use Rattle.std.specs.Prelude.{Result, Ok, Err, Option, Some, None}
+use Rattle.std.specs.Prelude.{Result, Ok, Err, Option, None}
 use Rattle.steps.specs.Refusal.{reason_number}
 use Rattle.steps.specs.declared.refusal.Reason.{Reason}
 use Rattle.reader.specs.Samples.{SampleRule}

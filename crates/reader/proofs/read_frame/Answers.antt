@@ -1,5 +1,5 @@
 -- `reader::read_frame` meets its contract: each `return` is one of the checks 6 to 8, or the rows.
-use mathlib.Core.Path.{refl, ap}
+use mathlib.Core.Path.{ap}
 use Rattle.steps.specs.Answer.{refusal_of}
 use Rattle.places.specs.Places.{long_of}
 use Rattle.reader.proofs.Laws.Frame.{of_layout, cleared_by}

@@ -3,7 +3,7 @@ use native.Mathlib.Omega.{arith}
 use Rattle.places.specs.Places.{long_of, count_of}
 use Rattle.places.specs.Inner.{line_of}
 use Rattle.places.proofs.Laws.Places.{either_small}
-use Rattle.reader.proofs.Laws.Frame.{of_layout, rows_start, line_room, count_most}
+use Rattle.reader.proofs.Laws.Frame.{of_layout, rows_start, line_room}
 use Rattle.reader.proofs.Laws.Read.{frame_done, frame_fault, frame_again}
 use Rattle.reader.proofs.read_rows.Goals as goal
 
@@ -14,8 +14,7 @@ pub step-requires : goal.step-requires
 step-requires c =
     let long = of_layout long_of _ _ _ _ _ c.layout_of-layout.ensures c.long-long.ensures in
     let count = of_layout count_of _ _ _ _ _ c.layout_of-layout.ensures c.count-count.ensures in
-    let line = of_layout (λ o width height. line_of o width height c.loop-k.k) _ _ _ _ _ c.layout_of-layout.ensures c.line-line.ensures.0 in
-    (
+    let line = of_layout (λ o width height. line_of o width height c.loop-k.k) _ _ _ _ _ c.layout_of-layout.ensures c.line-line.ensures.0 in (
       omega (arith, c.requires.0, long, c.loop-k.auto.store),
       search (either_small, long, c.requires.2, c.requires.3),
       (c.line-line.ensures.1, c.line-line.ensures.2, λ i l. line_room _ _ _ _ _ _ _ _ _ line count c.loop-k-test.true c.requires.2 c.requires.3 c.requires.1 c.loop-k.auto.out long i l),
