@@ -4,61 +4,41 @@
 mod head;
 
 ghost use Rattle.std.specs.Prelude.{◌≡◌, ◌-◌, ◌*◌, ◌≤◌, ◌&&◌, ◌++◌, length, drop, eqb, leb};
-ghost use Rattle.words.specs.Lines.{between};
+ghost use Rattle.steps.specs.Refusal.{reason_number};
 ghost use Rattle.window.specs.Row.{row_part, RowPromise, RowWithin};
+ghost use Rattle.words.specs.Lines.{between};
 
-pub use head::{HeadPart, read_header};
-use steps::{Reading, Taken, refusal};
+pub use head::read_header;
+use steps::refusal::Reason;
+use steps::{Reading, Taken};
 
 // Whether what ends at a place may need more than a part of that length. `more` says whether the file goes on after the part.
 fn reaches(more: bool, length: usize, end: usize) -> bool
     ensures { result ≡ more && leb length end }
 {
-    if more {
-        return length <= end;
-    }
-    false
+    more && length <= end
 }
 
-// What reading a row answers: the next place; the number of a refusal; or that the row may need more than the part.
-#[derive(Clone, Copy)]
-pub enum RowPart {
-    Read { next: usize },
-    Fault { number: u8 },
-    Long,
-}
-
-// Whether a row at fault by this number may be whole in the file: bytes are missing in the part, and the file goes on.
-fn may_go_on(more: bool, number: u8) -> bool
-    ensures { result ≡ more && eqb number 9 }
+// Whether a row at fault for this reason may be whole in the file: bytes are missing in the part, and the file goes on.
+fn may_go_on(more: bool, reason: Reason) -> bool
+    ensures { result ≡ more && eqb (reason_number reason) 9 }
 {
-    if more {
-        return number == refusal::BYTES_END;
-    }
-    false
+    more && reason == Reason::BytesEnd
 }
 
-// What a part says of a row that was read so.
-fn row_part(more: bool, length: usize, taken: Taken) -> RowPart
+// What a part says of a row that was read so; none where the row may need more than the part.
+#[tactic(auto, unfolding(crate::specs::Row::row_part))]
+fn row_part(more: bool, length: usize, taken: Taken) -> Option<Taken>
     ensures { result ≡ row_part more length taken }
 {
-    match taken {
-        Taken::Done { next } => {
-            if reaches(more, length, next) {
-                return RowPart::Long;
-            }
-            RowPart::Read { next }
-        }
-        Taken::Fault { number } => {
-            if may_go_on(more, number) {
-                return RowPart::Long;
-            }
-            RowPart::Fault { number }
-        }
-    }
+    let long = match taken {
+        Ok(next) => reaches(more, length, next),
+        Err(reason) => may_go_on(more, reason),
+    };
+    if long { None } else { Some(taken) }
 }
 
-// The row from a place of the part on, by a reading.
+// The row from a place of the part on, by a reading; none where it may need more than the part.
 pub fn read_row(
     reading: Reading,
     part: &[u8],
@@ -66,7 +46,7 @@ pub fn read_row(
     at: usize,
     store: &mut [u8],
     width: usize,
-) -> RowPart
+) -> Option<Taken>
     requires { (4 * width ≤ length store.old) × (width ≤ 65535) }
     ensures row_promise { RowPromise reading part.now more at store.old width result store.new }
     ensures row_within { at ≤ length part.now → RowWithin (length part.now) result }
@@ -76,15 +56,12 @@ pub fn read_row(
 }
 
 // Moves the bytes from `at` to `end` to the front; those behind them stay as they were.
+#[tactic(auto, using(crate::proofs::Laws::Slide::slid_again))]
 pub fn slide(bytes: &mut [u8], at: usize, end: usize)
     requires { (at ≤ end) × (end ≤ length bytes.old) }
     ensures { bytes.new ≡ between bytes.old at end ++ drop (end - at) bytes.old }
 {
-    let mut i = 0;
-    let mut from = at;
-    while from < end {
-        bytes[i] = bytes[from];
-        i += 1;
-        from += 1;
+    for i in 0..end - at {
+        bytes[i] = bytes[at + i];
     }
 }

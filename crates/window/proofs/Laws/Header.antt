@@ -6,24 +6,22 @@ use mathlib.Core.List.{List, [], ◌∷◌, ◌++◌, append-nil}
 use mathlib.Core.Path.{◌≡◌, refl, sym, ap, subst, ◌∙◌}
 use native.Mathlib.Nat.{lt_of_not-le}
 use native.Mathlib.Omega.{arith}
-use borrow.Author.Tests.{eq-eqb, ne_eqb, eqb-true, lt-leb, leb-true, leb-false, not-false}
+use borrow.Author.Tests.{eqb-true, lt-leb, leb-true, leb-false, not-false}
 use lib.ListN.{length, get_or, length-append}
 use lib.Dec.{eqb, leb}
-use Rattle.steps.specs.Answer.{Answer, done, refused, refusal_of}
+use Rattle.std.specs.Prelude.{Option, Some, None, option_map, Result, Ok, Err}
+use Rattle.steps.specs.Answer.{Answer, done, refused, refusal_of, paper_of}
 use Rattle.steps.specs.declared.Reading.{Reading}
 use Rattle.steps.specs.declared.refusal.Refusal.{Refusal}
+use Rattle.steps.specs.Loop.{pick}
 use Rattle.steps.proofs.Laws.Turns.{by_test, and_left, and_right}
 use Rattle.words.specs.Lines.{line_feed, space, past, lines_end}
 use Rattle.words.proofs.Laws.Lines.{past_from, past_moves, past_none, past_some}
 use Rattle.words.proofs.Laws.Rest.{Inside, past_more}
 use Rattle.header.specs.declared.Head.{Head}
-use Rattle.header.specs.declared.HeadAnswer.{HeadAnswer}
-use Rattle.header.specs.declared.HeadAnswer.TheVariants as answer
-use Rattle.header.specs.Head.{fields_of, header_of, paper_of}
+use Rattle.header.specs.Head.{fields_of, header_of}
 use Rattle.header.proofs.Laws.Head.{header_limits, header_taken, header_within}
 use Rattle.header.proofs.Laws.Rest.{last_start, taken_last, last_rest, header_rest, wrong_line}
-use Rattle.window.specs.declared.head.HeadPart.{HeadPart}
-use Rattle.window.specs.declared.head.HeadPart.TheVariants.{Read, Refused, Long}
 use Rattle.window.specs.Header.{ends_inside, refused_part, head_part, HeadPromise, HeadWithin}
 use Rattle.window.specs.Row.{Goes}
 
@@ -67,76 +65,57 @@ module _ (part : List ℕ) where
         let inside : last_start part < length part = rw (← last_is) (past_some line_feed part c (rw (← ed) h)) in
         rw (ed, last_is) (ends_in inside)
 
--- ---- What the code finds, case by case
+-- ---- What the code finds
 
--- the first line of a part of n bytes
-module _ (number n : ℕ) where
-  pub first_line : number ≡ 1 → leb 11 n ≡ (eqb number 1 && leb 11 n)
-  first_line h = simp (eq-eqb number 1 h)
+module _ (more : Bool) (part : List ℕ) (number place : ℕ) where
+  by_tests : (a m c : Bool) (b : Bool) → (not a && m && c) ≡ b
+      → ◌≡◌ {A = Option (Answer Head)} (pick a (Some (refused number place)) (pick (m && c) None (Some (refused number place)))) (pick b None (Some (refused number place)))
+  by_tests true m c b e = rw (← e)
+  by_tests false true c b e = rw (← e)
+  by_tests false false c b e = rw (← e)
 
-  pub no_first_line : (number ≡ 1 → ⊥) → false ≡ (eqb number 1 && leb 11 n)
-  no_first_line h = simp (ne_eqb number 1 h)
-
-module _ (more : Bool) (part : List ℕ) (r : Refusal) (n : ℕ) (en : n ≡ length part) (a : Bool) (ea : a ≡ (eqb r.number 1 && leb 11 n)) where
-  pub refused_first : a ≡ true → Refused r ≡ refused_part more part r
+  pub refused_long : (not (eqb number 1 && leb 11 (length part)) && more && not (ends_inside part)) ≡ true → refused_part more part number place ≡ None
   unfolding refused_part
-  refused_first h = simp (← en, sym ea ∙ h)
+  refused_long h = by_tests (eqb number 1 && leb 11 (length part)) more (not (ends_inside part)) true h
 
-  module _ (h : a ≡ false) where
-    pub refused_whole : more ≡ false → Refused r ≡ refused_part more part r
-    unfolding refused_part
-    refused_whole u = simp (← en, sym ea ∙ h, u)
-
-    module _ (u : more ≡ true) (b : Bool) (eb : b ≡ ends_inside part) where
-      pub refused_ended : b ≡ true → Refused r ≡ refused_part more part r
-      unfolding refused_part
-      refused_ended v = simp (← en, sym ea ∙ h, u, sym eb ∙ v)
-
-      pub refused_long : b ≡ false → Long ≡ refused_part more part r
-      unfolding refused_part
-      refused_long v = simp (← en, sym ea ∙ h, u, sym eb ∙ v)
-
-module _ (more : Bool) (part : List ℕ) (a : HeadAnswer) where
-  module _ (head : Head) (e : a ≡ answer.Read head) (n : ℕ) (en : n ≡ length part) (b : Bool) (eb : b ≡ (more && leb n head.taken)) where
-    pub head_long : b ≡ true → Long ≡ head_part more part (paper_of a)
-    unfolding head_part
-    head_long u = rw e (simp (← en, sym eb ∙ u))
-
-    pub head_read : b ≡ false → Read head ≡ head_part more part (paper_of a)
-    unfolding head_part
-    head_read u = rw e (simp (← en, sym eb ∙ u))
-
-  pub head_refused : (r : Refusal) (p : HeadPart) → a ≡ answer.Refused r → p ≡ refused_part more part r → p ≡ head_part more part (paper_of a)
-  unfolding head_part
-  head_refused r p e ep = rw e ep
+  pub refused_whole : (not (eqb number 1 && leb 11 (length part)) && more && not (ends_inside part)) ≡ false → refused_part more part number place ≡ Some (refused number place)
+  unfolding refused_part
+  refused_whole h = by_tests (eqb number 1 && leb 11 (length part)) more (not (ends_inside part)) false h
 
 -- ---- A header that is read lies in the part
 
-refused_within : (n : ℕ) (more : Bool) (part : List ℕ) (r : Refusal) → HeadWithin n (refused_part more part r)
-unfolding refused_part
-refused_within n more part r = by_test (HeadWithin n) (eqb r.number 1 && leb 11 (length part)) (λ _. tt) (λ _. by_test (HeadWithin n) (more && not (ends_inside part)) (λ _. tt) (λ _. tt))
+-- what the paper's answer says of that
+abbrev PaperWithin : ℕ → Option (Answer Head) → Type 0
+PaperWithin n (Some (done head)) = (head.taken ≤ n) × (head.width ≤ 65535) × (head.height ≤ 65535)
+PaperWithin n (Some (refused number place)) = Unit {0}
+PaperWithin n None = Unit {0}
 
-answer_within : (reading : Reading) (part : List ℕ) (more : Bool) (a : Answer Head) → a ≡ header_of reading part 65535 65535 → HeadWithin (length part) (head_part more part a)
+by_paper : (n : ℕ) (p : Option (Result Head Refusal)) → PaperWithin n (option_map paper_of p) → HeadWithin n p
+by_paper n (Some (Ok head)) h = h
+by_paper n (Some (Err refusal)) h = tt
+by_paper n None h = tt
+
+refused_within : (n : ℕ) (more : Bool) (part : List ℕ) (number place : ℕ) → PaperWithin n (refused_part more part number place)
+unfolding refused_part
+refused_within n more part number place =
+    by_test (PaperWithin n) (eqb number 1 && leb 11 (length part)) (λ _. tt) (λ _. by_test (PaperWithin n) (more && not (ends_inside part)) (λ _. tt) (λ _. tt))
+
+answer_within : (reading : Reading) (part : List ℕ) (more : Bool) (a : Answer Head) → a ≡ header_of reading part 65535 65535 → PaperWithin (length part) (head_part more part a)
 unfolding head_part
 answer_within reading part more (done head) e =
-    by_test (HeadWithin (length part)) (more && leb (length part) head.taken) (λ _. tt)
+    by_test (PaperWithin (length part)) (more && leb (length part) head.taken) (λ _. tt)
     (λ _. let l = header_limits reading part 65535 65535 head (sym e) in (header_within reading part 65535 65535 head (sym e), l.0, l.1))
-answer_within reading part more (refused number place) e = refused_within (length part) more part _
+answer_within reading part more (refused number place) e = refused_within (length part) more part number place
 
-module _ (reading : Reading) (part : List ℕ) (more : Bool) (a : HeadAnswer) (p : HeadPart) (ea : paper_of a ≡ header_of reading part 65535 65535) (e : p ≡ head_part more part (paper_of a)) where
-  pub head_is : p ≡ head_part more part (header_of reading part 65535 65535)
-  head_is = rw (← ea) e
-
-  pub head_within : HeadWithin (length part) p
-  head_within = rw e (answer_within reading part more (paper_of a) ea)
+pub head_within : (reading : Reading) (part : List ℕ) (more : Bool) (p : Option (Result Head Refusal)) → HeadPromise reading part more p → HeadWithin (length part) p
+head_within reading part more p e = by_paper (length part) p (subst (PaperWithin (length part)) (sym e) (answer_within reading part more (header_of reading part 65535 65535) refl))
 
 -- ---- What a part says of the header holds of the whole file
 
 -- the bytes answer what a part says
-abbrev Answers : Reading → List ℕ → HeadPart → Type 0
-Answers reading bytes (Read head) = header_of reading bytes 65535 65535 ≡ done head
-Answers reading bytes (Refused r) = header_of reading bytes 65535 65535 ≡ refusal_of r
-Answers reading bytes Long = Unit {0}
+abbrev Answers : Reading → List ℕ → Option (Answer Head) → Type 0
+Answers reading bytes (Some a) = header_of reading bytes 65535 65535 ≡ a
+Answers reading bytes None = Unit {0}
 
 module _ (reading : Reading) (part rest : List ℕ) where
   -- a header that ends before the part does
@@ -175,9 +154,9 @@ module _ (reading : Reading) (part rest : List ℕ) where
 
   module _ (more : Bool) (g : Goes more rest) where
     -- a header that is read in the part is the file's
-    pub header_of_file : (head : Head) → HeadPromise reading part more (Read head) → header_of reading (part ++ rest) 65535 65535 ≡ done head
+    pub header_of_file : (head : Head) → HeadPromise reading part more (Some (Ok head)) → header_of reading (part ++ rest) 65535 65535 ≡ done head
     header_of_file head e = subst (Answers reading (part ++ rest)) (sym e) (answers more g _ refl)
 
     -- and one that is refused there is refused so in the file
-    pub refusal_of_file : (r : Refusal) → HeadPromise reading part more (Refused r) → header_of reading (part ++ rest) 65535 65535 ≡ refusal_of r
+    pub refusal_of_file : (r : Refusal) → HeadPromise reading part more (Some (Err r)) → header_of reading (part ++ rest) 65535 65535 ≡ refusal_of r
     refusal_of_file r e = subst (Answers reading (part ++ rest)) (sym e) (answers more g _ refl)

@@ -6,6 +6,9 @@ use mathlib.Core.Path.{◌≡◌, refl, sym, ap, ◌∙◌}
 use borrow.Author.Tests.{leb-false, eqb-false}
 use lib.ListN.{length}
 use lib.Dec.{leb, eqb}
+use Rattle.std.specs.Prelude.{Option, Ok, Err}
+use Rattle.steps.specs.Answer.{Taken}
+use Rattle.steps.specs.Refusal.{reason_number}
 use Rattle.steps.proofs.Laws.Turns.{by_test}
 use Rattle.steps.specs.declared.Reading.{Reading}
 use Rattle.rows_read.specs.Row.{RowRule, row_of}
@@ -13,45 +16,15 @@ use Rattle.rows_read.specs.Middle.{Settled, later, Before, Behind}
 use Rattle.rows_read.proofs.Laws.Bounds.{row_onward, reading_sound}
 use Rattle.rows_read.proofs.Laws.Before.{anywhere, reading_before}
 use Rattle.rows_read.proofs.Laws.Behind.{reading_behind}
-use Rattle.steps.specs.declared.Taken.{Taken}
-use Rattle.steps.specs.declared.Taken.TheVariants as taken
-use Rattle.window.specs.declared.RowPart.{RowPart}
-use Rattle.window.specs.declared.RowPart.TheVariants.{Read, Fault, Long}
 use Rattle.window.specs.Row.{row_part, part_by, RowWithin, Goes, OfFile}
 
--- ---- What the code finds, case by case
-
-pub reaches_more : (more : Bool) (length end : ℕ) → more ≡ true → leb length end ≡ (more && leb length end)
-reaches_more more length end t = simp t
-
-pub goes_more : (more : Bool) (number : ℕ) → more ≡ true → eqb number 9 ≡ (more && eqb number 9)
-goes_more more number t = simp t
-
-module _ (more b : Bool) (n next : ℕ) (t : Taken) (et : t ≡ taken.Done next) (eb : b ≡ (more && leb n next)) where
-  pub row_long : b ≡ true → Long ≡ row_part more n t
-  unfolding row_part
-  row_long u = rw et (simp (sym eb ∙ u))
-
-  pub row_read : b ≡ false → Read next ≡ row_part more n t
-  unfolding row_part
-  row_read u = rw et (simp (sym eb ∙ u))
-
-module _ (more b : Bool) (n number : ℕ) (t : Taken) (et : t ≡ taken.Fault number) (eb : b ≡ (more && eqb number 9)) where
-  pub row_missing : b ≡ true → Long ≡ row_part more n t
-  unfolding row_part
-  row_missing u = rw et (simp (sym eb ∙ u))
-
-  pub row_fault : b ≡ false → Fault number ≡ row_part more n t
-  unfolding row_part
-  row_fault u = rw et (simp (sym eb ∙ u))
-
 -- the next place lies in the part
-within : (more : Bool) (n : ℕ) (t : Taken) → ((next : ℕ) → t ≡ taken.Done next → next ≤ n) → RowWithin n (row_part more n t)
+within : (more : Bool) (n : ℕ) (t : Taken) → ((next : ℕ) → t ≡ Ok next → next ≤ n) → RowWithin n (row_part more n t)
 unfolding row_part
-within more n (taken.Done next) h = by_test (RowWithin n) (more && leb n next) (λ _. tt) (λ _. h next refl)
-within more n (taken.Fault number) h = by_test (RowWithin n) (more && eqb number 9) (λ _. tt) (λ _. tt)
+within more n (Ok next) h = by_test (RowWithin n) (more && leb n next) (λ _. tt) (λ _. h next refl)
+within more n (Err reason) h = by_test (RowWithin n) (more && eqb (reason_number reason) 9) (λ _. tt) (λ _. tt)
 
-module _ (reading : Reading) (part : List ℕ) (more : Bool) (at : ℕ) (store store' : List ℕ) (width : ℕ) (t : Taken) (n : ℕ) (r : RowPart) (e : (t, store') ≡ row_of reading part at store width) (en : n ≡ length part) (er : r ≡ row_part more n t) where
+module _ (reading : Reading) (part : List ℕ) (more : Bool) (at : ℕ) (store store' : List ℕ) (width : ℕ) (t : Taken) (n : ℕ) (r : Option Taken) (e : (t, store') ≡ row_of reading part at store width) (en : n ≡ length part) (er : r ≡ row_part more n t) where
   pub part_is : (r, store') ≡ part_by (row_of reading) part more at store width
   unfolding part_by
   part_is = rw (er, en) (ap (λ (z : Taken × List ℕ). (row_part more (length part) z.0, z.1)) e)
@@ -78,12 +51,12 @@ module _ (rule : RowRule) (before : Before rule) (behind : Behind rule) (pre par
   -- what the part says of a row, by the rule's answer
   by_answer : (more : Bool) → Goes more rest → (t : Taken) (s : List ℕ) → there ≡ (t, s) → OfFile (length pre) (row_part more (length part) t) s in_file
   unfolding row_part
-  by_answer more goes (taken.Done next) s e =
-      by_test (λ (r : RowPart). OfFile (length pre) r s in_file) (more && leb (length part) next) (λ _. tt)
+  by_answer more goes (Ok next) s e =
+      by_test (λ (r : Option Taken). OfFile (length pre) r s in_file) (more && leb (length part) next) (λ _. tt)
       (λ u. same more (leb (length part) next) goes u (λ v. rw e (leb-false (length part) next v)) ∙ rw e)
-  by_answer more goes (taken.Fault number) s e =
-      by_test (λ (r : RowPart). OfFile (length pre) r s in_file) (more && eqb number 9) (λ _. tt)
-      (λ u. same more (eqb number 9) goes u (λ v. rw e (eqb-false number 9 v)) ∙ rw e)
+  by_answer more goes (Err reason) s e =
+      by_test (λ (r : Option Taken). OfFile (length pre) r s in_file) (more && eqb (reason_number reason) 9) (λ _. tt)
+      (λ u. same more (eqb (reason_number reason) 9) goes u (λ v. rw e (λ k. eqb-false (reason_number reason) 9 v (ap reason_number k))) ∙ rw e)
 
   -- a row of the part is that row of the file, so many places later, with the same number or the same place after it and the same row store
   pub row_of_file : (more : Bool) → Goes more rest → OfFile (length pre) (part_by rule part more at store width).0 (part_by rule part more at store width).1 in_file

@@ -1,5 +1,5 @@
 -- Bytes that are moved to the front, one by one.
-use Prim.Native.Nat.{ℕ, ◌+◌, ◌-◌, ◌<◌, ◌≤◌}
+use Prim.Native.Nat.{ℕ, ◌+◌, ◌<◌}
 use mathlib.Core.List.{List, ◌++◌, append_assoc}
 use mathlib.Core.Path.{◌≡◌, sym, ap, ◌∙◌}
 use native.Mathlib.Numerals.{add-one}
@@ -11,9 +11,9 @@ use lib.Seq.{length-take-le, drop-cons, take-suc, get_or-append-add, get_or-drop
 abbrev pub slid : ℕ → List ℕ → ℕ → List ℕ
 slid at bytes i = take i (drop at bytes) ++ drop i bytes
 
-module _ (at : ℕ) (before bytes : List ℕ) (i from end : ℕ) (e : bytes ≡ slid at before i) (ef : from ≡ at + i) where
-  pub slid_again : (bytes' : List ℕ) → from < end → end ≤ length before → bytes' ≡ set bytes i (get_or bytes from 0) → bytes' ≡ slid at before (i + 1)
-  slid_again bytes' h l eb = eb ∙ ap (set bytes i) byte ∙ next
+module _ (at : ℕ) (before bytes : List ℕ) (i from : ℕ) (e : bytes ≡ slid at before i) (ef : from ≡ at + i) where
+  pub slid_again : from < length before → set bytes i (get_or bytes from 0) ≡ slid at before (i + 1)
+  slid_again h = ap (set bytes i) byte ∙ next
     where
       there : get_or (drop at before) i 0 ≡ get_or before from 0
       there = rw ef (get_or-drop at before i 0)
@@ -31,6 +31,3 @@ module _ (at : ℕ) (before bytes : List ℕ) (i from end : ℕ) (e : bytes ≡ 
       next =
           rw (e, drop-cons before i 0 (omega arith), add-one, take-suc (drop at before) i 0 (omega (arith, length-drop at before)), there)
           (set_at (take i (drop at before)) _ _ _ i front ∙ sym (append_assoc (take i (drop at before)) _ _))
-
-  pub slid_end : from ≤ end → end ≤ from → bytes ≡ slid at before (end - at)
-  slid_end h l = let k : end - at ≡ i = omega arith in rw k e
