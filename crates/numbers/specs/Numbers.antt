@@ -1,16 +1,12 @@
 -- The answer of any call as eight numbers: the number of the refusal or 0, its place or 0, and six values, each 0 where there is none.
-use Rattle.std.specs.Prelude.{ℕ, Bool, true, false, List, [], ◌∷◌, Float}
+use Rattle.std.specs.Prelude.{ℕ, Bool, true, false, List, [], ◌∷◌, Float, Option, Some, None}
 use Rattle.std.specs.Float.{binary32}
 use Rattle.std.specs.Float.Ieee.{eq, to_bits}
 use Rattle.steps.specs.Loop.{pick}
 use Rattle.steps.specs.Answer.{Answer, done, refused, refuse}
-use Rattle.steps.specs.declared.amount.Amount.{Amount}
-use Rattle.steps.specs.declared.amount.Amount.TheVariants.{Number, None}
 use Rattle.words.specs.declared.axes.Orientation.{Orientation}
 use Rattle.stated.specs.declared.Colour.{Colour}
-use Rattle.stated.specs.declared.Colour.TheVariants as colour
-use Rattle.stated.specs.declared.Exposure.{Exposure}
-use Rattle.stated.specs.declared.Exposure.TheVariants as exposure
+use Rattle.stated.specs.declared.Colour.TheVariants.{Rgbe, Xyze}
 use Rattle.header.specs.declared.Head.{Head}
 
 -- what a call that does not refuse returns, as six numbers
@@ -23,19 +19,19 @@ pub record Values : Type 0 where
   pub orientation : ℕ
 
 -- the colour kind
-abbrev pub colour_of : Colour → ℕ
-colour_of colour.NotStated = 0
-colour_of colour.Rgbe = 1
-colour_of colour.Xyze = 2
+abbrev pub colour_of : Option Colour → ℕ
+colour_of None = 0
+colour_of (Some Rgbe) = 1
+colour_of (Some Xyze) = 2
 
 -- the bit pattern of a number, and 0 for what is none
 unfoldable pub pattern_of : Float → ℕ
 pattern_of x = pick (eq x x) (to_bits binary32 x) 0
 
 -- the exposure: its bit pattern, which is not 0, since no header states 0
-abbrev pub exposure_of : Exposure → ℕ
-exposure_of (exposure.Stated x) = pattern_of x
-exposure_of exposure.NotStated = 0
+abbrev pub exposure_of : Option Float → ℕ
+exposure_of (Some x) = pattern_of x
+exposure_of None = 0
 
 -- by whether X is named first, whether Y runs upward, and whether X runs leftward
 abbrev pub axes_number : Bool → Bool → Bool → ℕ
@@ -81,8 +77,8 @@ numbers values (done a) = listed (values a)
 numbers values (refused number place) = stopped number place
 
 -- a number, or "none", which counts as the refusal 255: the table of refusals (RULES 2.2) has no such number
-abbrev pub counted : Amount → Answer ℕ
-counted (Number n) = done n
+abbrev pub counted : Option ℕ → Answer ℕ
+counted (Some n) = done n
 counted None = refuse 255
 
 -- the eight numbers, and the lent lists as they are

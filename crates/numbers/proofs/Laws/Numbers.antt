@@ -1,15 +1,10 @@
--- What is put for an answer that is known by its case, and by the promise of the call that gave it.
+-- What is put for an answer that is known by the promise of the call that gave it.
 use Prim.Native.Nat.{ℕ}
 use mathlib.Core.List.{List}
-use mathlib.Core.Path.{◌≡◌, sym, ap, ◌∙◌}
+use mathlib.Core.Path.{◌≡◌, ap, ◌∙◌}
+use Rattle.std.specs.Prelude.{Option}
 use Rattle.steps.specs.Answer.{Answer}
-use Rattle.steps.specs.declared.amount.Amount.{Amount}
 use Rattle.numbers.specs.Numbers.{Values, single, numbers, counted, with_one, with_two}
-
--- an answer t that is the case k
-pub in_case : {A B : Type 0} (values : A → Values) (paper : B → Answer A) (t k : B) (answer : List ℕ)
-    → answer ≡ numbers values (paper k) → t ≡ k → answer ≡ numbers values (paper t)
-in_case values paper t k answer put e = put ∙ sym (ap (λ (x : _). numbers values (paper x)) e)
 
 -- the answer alone
 pub as_promised : {A : Type 0} (values : A → Values) (t p : Answer A) (answer : List ℕ) → answer ≡ numbers values t → t ≡ p → answer ≡ numbers values p
@@ -26,5 +21,5 @@ pub as_promised_two : {A B C : Type 0} (values : A → Values) (t : Answer A) (p
 as_promised_two values t p b d answer put e = ap (λ (x : List ℕ). (x, b, d)) put ∙ ap (with_two values) e
 
 -- a number, or "none"
-pub as_counted : (t a : Amount) (answer : List ℕ) → answer ≡ numbers single (counted t) → t ≡ a → answer ≡ numbers single (counted a)
-as_counted t a answer put e = in_case single counted a t answer put (sym e)
+pub as_counted : (t a : Option ℕ) (answer : List ℕ) → answer ≡ numbers single (counted t) → t ≡ a → answer ≡ numbers single (counted a)
+as_counted t a answer put e = put ∙ ap (λ (x : Option ℕ). numbers single (counted x)) e

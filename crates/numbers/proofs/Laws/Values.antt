@@ -1,58 +1,48 @@
 -- The values of a header: its exposure as a bit pattern, its orientation as a number, and all of them as they are put.
 use Prim.Native.Nat.{ℕ, zero, suc, ◌+◌, ◌-◌, ◌*◌, ◌/◌, ◌%◌, ◌^◌, ◌<◌}
-use mathlib.Core.Bool.{Bool, true, false, beq}
-use mathlib.Core.List.{List, [], ◌∷◌}
+use mathlib.Core.Bool.{Bool, true, false, beq, true≢false}
+use mathlib.Core.List.{List}
 use mathlib.Core.Path.{◌≡◌, refl, sym, ap, ◌∙◌, subst}
 use native.Mathlib.Nat.{lt_irrefl, div-one}
 use native.Mathlib.Omega.{arith}
 use borrow.Author.Tests.{eq-eqb}
 use lib.Dec.{eqb, ltb}
-use lib.Ieee.{Float, nan, inf, fin, binary32, up, down, size, eq, to_bits}
+use lib.Ieee.{Float, nan, inf, fin, binary32, up, down, size, eq, is_nan, to_bits}
+use Rattle.std.specs.Prelude.{Option, Some, None}
 use Rattle.steps.specs.Answer.{done}
 use Rattle.steps.specs.declared.Reading.{Reading}
 use Rattle.pixel.specs.Units.{Exactly}
 use Rattle.pixel.proofs.Laws.Patterns.{bits_of, bits_are}
 use Rattle.words.specs.Axes.{orientation}
 use Rattle.words.specs.declared.axes.Orientation.{Orientation}
-use Rattle.stated.specs.declared.Exposure.{Exposure}
-use Rattle.stated.specs.declared.Exposure.TheVariants.{Stated, NotStated}
 use Rattle.stated.proofs.Laws.Usable.{Above}
 use Rattle.header.specs.declared.Head.{Head}
 use Rattle.header.specs.Head.{header_of}
 use Rattle.header.proofs.Laws.Head.{header_above}
-use Rattle.numbers.specs.Numbers.{colour_of, pattern_of, exposure_of, axes_number, orientation_of, head_values, numbers}
+use Rattle.numbers.specs.Numbers.{pattern_of, exposure_of, axes_number, orientation_of}
 
-pub pattern_is : (x : Float) → eq x x ≡ true → to_bits binary32 x ≡ pattern_of x
+same_sign : (s : Bool) → beq s s ≡ true
+same_sign true = refl
+same_sign false = refl
+
+-- a number equals itself
+itself : (x : Float) → is_nan x ≡ false → eq x x ≡ true
+unfolding eq is_nan
+itself nan h = absurd (true≢false h)
+itself (inf s) h = same_sign s
+itself (fin s m d) h = simp (eq-eqb (m * up d * down d) (m * up d * down d) refl, same_sign s)
+
+pub pattern_is : (x : Float) → is_nan x ≡ false → to_bits binary32 x ≡ pattern_of x
 unfolding pattern_of
-pattern_is x e = simp e
-
-pub pattern_none : (x : Float) → eq x x ≡ false → 0 ≡ pattern_of x
-unfolding pattern_of
-pattern_none x e = simp e
-
-pub exposure_stated : (e : Exposure) (x : Float) (n : ℕ) → e ≡ Stated x → n ≡ pattern_of x → n ≡ exposure_of e
-exposure_stated e x n k is = is ∙ sym (ap exposure_of k)
-
-pub orientation_is : (c u l : Bool) (o : Orientation) → o.columns ≡ c → o.upward ≡ u → o.leftward ≡ l → axes_number c u l ≡ orientation_of o
-unfolding orientation_of
-orientation_is c u l o ec eu el = rw (sym ec, sym eu, sym el)
-
-pub values_put : (head : Head) (colour exposure orientation : ℕ)
-    → colour ≡ colour_of head.colour → exposure ≡ exposure_of head.exposure → orientation ≡ orientation_of head.orientation
-    → 0 ∷ 0 ∷ head.width ∷ head.height ∷ head.taken ∷ colour ∷ exposure ∷ orientation ∷ [] ≡ numbers head_values (done head)
-values_put head colour exposure orientation c e o = rw (c, e, o)
+pattern_is x h = simp (itself x h)
 
 -- ---- The number of the exposure is 0 exactly where none is stated
 
-itself : (x : Float) (n : ℕ) → Exactly x n → eq x x ≡ true
-unfolding eq
-itself nan n h = absurd h
-itself (inf s) n h = absurd h
-itself (fin s m d) n h = simp (eq-eqb (m * up d * down d) (m * up d * down d) refl, same_sign s)
-  where
-    same_sign : (s : Bool) → beq s s ≡ true
-    same_sign true = refl
-    same_sign false = refl
+exactly_some : (x : Float) (n : ℕ) → Exactly x n → is_nan x ≡ false
+unfolding is_nan
+exactly_some nan n h = absurd h
+exactly_some (inf s) n h = absurd h
+exactly_some (fin s m d) n h = refl
 
 above_zero : (n : ℕ) → 0 < n → 0 < bits_of n
 above_zero n h = go (size n - 24) refl
@@ -63,14 +53,14 @@ above_zero n h = go (size n - 24) refl
 
 pub exposure_zero :
     (reading : Reading) (bytes : List ℕ) (widest highest : ℕ) (head : Head) →
-    header_of reading bytes widest highest ≡ done head → exposure_of head.exposure ≡ 0 → head.exposure ≡ NotStated
+    header_of reading bytes widest highest ≡ done head → exposure_of head.exposure ≡ 0 → head.exposure ≡ None
 exposure_zero reading bytes widest highest head e z = go head.exposure (header_above reading bytes widest highest head e) z
   where
-    go : (w : Exposure) → Above w → exposure_of w ≡ 0 → w ≡ NotStated
-    go NotStated a z = refl
-    go (Stated x) a z =
+    go : (w : Option Float) → Above w → exposure_of w ≡ 0 → w ≡ None
+    go None a z = refl
+    go (Some x) a z =
         let n = a.0 in
-        let bits : bits_of n ≡ 0 = sym (bits_are x n a.3) ∙ pattern_is x (itself x n a.3) ∙ z in
+        let bits : bits_of n ≡ 0 = sym (bits_are x n a.3) ∙ pattern_is x (exactly_some x n a.3) ∙ z in
         absurd (lt_irrefl 0 (subst (λ (b : ℕ). 0 < b) bits (above_zero n a.1)))
 
 -- ---- The number of an orientation is from 1 to 8, and no two have the same
