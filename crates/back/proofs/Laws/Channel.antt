@@ -7,8 +7,8 @@ use native.Mathlib.Nat.{add-zero}
 use lib.ListN.{length, drop, replicate, length-append, length-replicate, length-drop}
 use Rattle.steps.specs.Place.{bytes_from, spread}
 use Rattle.steps.proofs.Laws.Loop.{Runs, runs_halt}
-use Rattle.steps.specs.declared.Taken.{Taken}
-use Rattle.steps.specs.declared.Taken.TheVariants.{Done}
+use Rattle.steps.specs.Answer.{Taken}
+use Rattle.std.specs.Prelude.{Ok}
 use Rattle.channels_read.specs.Channel.{chan, CountRule, channel_of, channel_out, channel_turn}
 use Rattle.channels_read.proofs.Laws.Channel.{TakesWhole, length_run, length_literals, taken_run, taken_literals, span_run, span_literals, span_again, turn_done, channel_starts}
 use Rattle.channels_written.specs.Channel.{packet, code}
@@ -75,7 +75,7 @@ module _ (rule : CountRule) (src : List ℕ) (k w : ℕ) (a : Taken × List ℕ)
 -- where the bytes c stand, a channel of w bytes is read as xs, and just c is taken
 abbrev pub ReadAs : CountRule → ℕ → List ℕ → List ℕ → Type 0
 ReadAs rule w c xs =
-    (src : List ℕ) (at : ℕ) (store : List ℕ) (k : ℕ) (rest : List ℕ) → drop at src ≡ c ++ rest → channel_of rule src at store k w ≡ (Done (at + length c), spread 4 store k xs)
+    (src : List ℕ) (at : ℕ) (store : List ℕ) (k : ℕ) (rest : List ℕ) → drop at src ≡ c ++ rest → channel_of rule src at store k w ≡ (Ok (at + length c), spread 4 store k xs)
 
 -- counts that add up to the channel's length
 pub read_as : (rule : CountRule) (w : ℕ) (c xs : List ℕ) → length xs ≡ w → ((src : List ℕ) (k : ℕ) (a : Taken × List ℕ) → Reads rule src k w a c xs) → ReadAs rule w c xs
@@ -83,7 +83,7 @@ read_as rule w c xs s reads src at store k rest e =
     let ends = reads src k (channel_of rule src at store k w) rest at 0 store e (omega arith) (channel_starts rule src at store k w) in
     let done : w ≤ 0 + length xs = omega arith in
     sym (runs_halt ends (turn_done rule src k w (chan (at + length c) (0 + length xs) (spread 4 store (k + 4 * 0) xs)) done))
-    ∙ ap (λ (i : ℕ). (Done (at + length c), spread 4 store i xs)) (omega arith)
+    ∙ ap (λ (i : ℕ). (Ok (at + length c), spread 4 store i xs)) (omega arith)
 
 -- a coded channel is read as its bytes
 pub code_read : (rule : CountRule) → TakesWhole rule → (w : ℕ) (xs : List ℕ) → length xs ≡ w → ReadAs rule w (code xs) xs

@@ -9,6 +9,7 @@ use borrow.Author.Tests.{lt-ltb, lt-leb, leb-true, ltb-true, ltb-false}
 use lib.ListN.{length, get_or, drop, length-append}
 use lib.Seq.{take-append_seam}
 use lib.Dec.{ltb, leb, lit<}
+use Rattle.std.specs.Prelude.{Ok, Some}
 use Rattle.steps.specs.Answer.{done}
 use Rattle.steps.specs.declared.Reading.{Reading}
 use Rattle.steps.specs.declared.Reading.TheVariants.{Crate, Document}
@@ -19,19 +20,17 @@ use Rattle.words.specs.Fields.{is_blank, trim_start, trim_end, trim}
 use Rattle.words.specs.Axes.{minus_y, plus_x, upright, axis_of, axes_of}
 use Rattle.words.specs.Sizes.{is_digit, all_digits, value_from, is_number, is_some, is_size, size_of}
 use Rattle.words.specs.Inner.{size_answer}
-use Rattle.stated.specs.declared.SaidAnswer.TheVariants.{Heard}
+use Rattle.words.specs.declared.axes.Orientation.{Orientation}
 use Rattle.stated.specs.declared.Colour.TheVariants.{Rgbe}
 use Rattle.stated.specs.Said.{nothing, coloured, starts, formatted, heard, said_of, said_by}
 use Rattle.stated.proofs.Laws.Said.{place}
 use Rattle.stated.proofs.Laws.Lines.{said_on, said_blank}
 use Rattle.header.specs.Head.{takes, lies_by, limit, head, header_of}
 use Rattle.header.specs.Written.{digits, written, written_said}
-use Rattle.words.specs.declared.sizes.Size.TheVariants.{Number}
-use Rattle.words.specs.declared.axes.Axes.TheVariants.{Named}
 use Rattle.words.proofs.Laws.Lines.{up_to_found, up_to_on, lines_start, lines_on, lines_blank}
 use Rattle.words.proofs.Laws.Fields.{blank_by, blank_space, end_by}
 use Rattle.words.proofs.Laws.Sizes.{digit, unsigned_plain}
-use Rattle.header.proofs.Laws.Head.{sizes_read, named_rows, fields_named, header_right}
+use Rattle.header.proofs.Laws.Head.{sizes_read, fields_read, header_right}
 use Rattle.header.proofs.Laws.Written.{digits_one, digits_more, written_length}
 
 -- ---- A field where it stands
@@ -138,9 +137,9 @@ unfolding all_digits
 first_no_plus [] d e = omega arith
 first_no_plus (x ∷ xs) d e = let k = from_48 x (and_left (is_digit x) (all_digits xs) d) in let f : x ≡ 43 = e in omega arith
 
-size_there : (n : ℕ) (xs : List ℕ) → n < 2 ^ 64 → Digits n xs → Number n ≡ size_answer xs
+size_there : (n : ℕ) (xs : List ℕ) → n < 2 ^ 64 → Digits n xs → Some n ≡ size_answer xs
 unfolding size_answer is_size size_of is_number
-size_there n xs h d = rw (← unsigned_plain xs (first_no_plus xs d.all)) (simp (d.some, d.all, d.value, lt-ltb n (2 ^ 64) h))
+size_there n xs h d = rw (← unsigned_plain xs (λ l. first_no_plus xs d.all)) (simp (d.some, d.all, d.value, lt-ltb n (2 ^ 64) h))
 
 feed_blank : true ≡ is_blank line_feed
 unfolding is_blank
@@ -211,7 +210,7 @@ module _ (w h : ℕ) (rest : List ℕ) where
   unfolding written
   fields_there = simp append_assoc
 
-  axes_fields : (Ended space first) × (Ended space third) × (trim first ≡ minus_y) × (trim third ≡ plus_x) × (Named upright ≡ axes_of minus_y plus_x)
+  axes_fields : (Ended space first) × (Ended space third) × (trim first ≡ minus_y) × (trim third ≡ plus_x) × (Some upright ≡ axes_of minus_y plus_x)
   unfolding up_to trim_start trim_end is_blank same axis_of axes_of
   axes_fields = (λ after. refl, λ after. refl, refl, refl, refl)
 
@@ -233,8 +232,8 @@ module _ (w h : ℕ) (rest : List ℕ) where
       let W = digits_are w in
       let H = digits_are h in
       let A = axes_fields in
-      let height : Number h ≡ size_answer (digits h) = size_there h (digits h) (omega arith) H in
-      let width : Number w ≡ size_answer (digits w) = size_there w (digits w) (omega arith) W in
+      let height : Some h ≡ size_answer (digits h) = size_there h (digits h) (omega arith) H in
+      let width : Some w ≡ size_answer (digits w) = size_there w (digits w) (omega arith) W in
       let a : ℕ = 53 + length first in
       let b : ℕ = a + length second in
       let c : ℕ = b + length third in
@@ -243,7 +242,7 @@ module _ (w h : ℕ) (rest : List ℕ) where
       let e2 = drop_past bytes 53 first _ e1 in
       let e3 = drop_past bytes a second _ e2 in
       let e4 = drop_past bytes b third _ e3 in
-      let fields = fields_named bytes 53 a b c d
+      let fields = fields_read bytes 53 a b c d
       (past_there bytes 53 first _ e1 space A.0)
       (past_there bytes a second _ e2 space (ended_there (digits h) space (lit< tt) H.all))
       (past_there bytes b third _ e3 space A.1)
@@ -253,8 +252,7 @@ module _ (w h : ℕ) (rest : List ℕ) where
       (sym (ap trim (between_there bytes a second _ e2) ∙ trimmed_there h (digits h) space (blank_space space refl) H))
       (sym (ap trim (between_there bytes b third _ e3) ∙ A.3))
       (sym (ap trim (between_there bytes c fourth _ e4) ∙ trimmed_there w (digits w) line_feed feed_blank W))
-      reading (written_said reading) widest highest (Named upright) A.4 _ upright refl
-      (named_rows reading (written_said reading) upright (digits h) (digits w) d widest highest true (upright_taken reading) _ refl upright (upright_lies reading) refl
-      (sizes_read (written_said reading) upright (digits h) (digits w) d widest highest (Number h) height h refl (Number w) width w refl (limit highest) refl high (limit widest) refl wide)) in
-      sym (header_right reading bytes widest highest 11 first_line true is_first_lem _ refl (Heard (written_said reading)) (sym (said_there reading)) (written_said reading) 53 refl lines_there fields)
-      ∙ ap (λ (n : ℕ). done (head (written_said reading) upright w h n)) taken_there
+      reading (written_said reading) widest highest (Some upright) A.4 upright refl (sym (upright_taken reading)) (digits h) (digits w) refl refl w h
+      (sym (sizes_read (digits h) (digits w) widest highest h (sym height) w (sym width) (limit highest) refl high (limit widest) refl wide)) in
+      header_right reading bytes widest highest 11 first_line true is_first_lem refl (Ok (written_said reading)) (sym (said_there reading)) (written_said reading) 53 refl lines_there
+      ∙ fields ∙ ap (λ (o : Orientation). done (head (written_said reading) o w h d)) (sym (upright_lies reading)) ∙ ap (λ (n : ℕ). done (head (written_said reading) upright w h n)) taken_there

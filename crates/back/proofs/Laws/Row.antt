@@ -11,8 +11,8 @@ use borrow.Author.Tests.{lt-ltb, eq-eqb}
 use Rattle.steps.specs.Loop.{pick}
 use Rattle.steps.specs.Place.{bytes_from, spread}
 use Rattle.steps.proofs.Laws.Loop.{Runs}
-use Rattle.steps.specs.declared.Taken.{Taken}
-use Rattle.steps.specs.declared.Taken.TheVariants.{Done}
+use Rattle.steps.specs.Answer.{Taken}
+use Rattle.std.specs.Prelude.{Ok}
 use Rattle.flat_read.specs.Flat.{FlatRule, is_repeat, flat, flat_rule, flat_of, flat_out, flat_turn, four_to}
 use Rattle.rows_read.specs.Row as read
 use Rattle.flat_read.proofs.Laws.Flat.{NoRepeat, four_there, flat_starts, flat_done, flat_ordinary}
@@ -51,7 +51,7 @@ module _ (rule : CountRule) (w : ℕ) (src : List ℕ) where
   next_channel c xs reads at k store rest a h e r = chans_again rule src w at k store a r _ _ h (sym (reads src at store k rest e)) _ refl
 
   channels_there : (px : List ℕ) (p : ℕ) (c0 c1 c2 c3 : List ℕ) → FourRead rule px p w c0 c1 c2 c3 → (at : ℕ) (store rest : List ℕ) → drop at src ≡ c0 ++ (c1 ++ (c2 ++ (c3 ++ rest)))
-      → (next : ℕ) → next ≡ at + length c0 + length c1 + length c2 + length c3 → (Done next, spread 1 store 0 (bytes_from px p (4 * w))) ≡ channels_of rule src at store w
+      → (next : ℕ) → next ≡ at + length c0 + length c1 + length c2 + length c3 → (Ok next, spread 1 store 0 (bytes_from px p (4 * w))) ≡ channels_of rule src at store w
   channels_there px p c0 c1 c2 c3 four at store rest e0 next ends =
       let a = channels_of rule src at store w in
       let e1 : drop (at + length c0) src ≡ c1 ++ (c2 ++ (c3 ++ rest)) = drop_past src at c0 _ e0 in
@@ -61,8 +61,8 @@ module _ (rule : CountRule) (w : ℕ) (src : List ℕ) where
       let r2 = next_channel c1 _ four.1 _ 1 _ _ a (lit< tt) e1 r1 in
       let r3 = next_channel c2 _ four.2 _ 2 _ _ a (lit< tt) e2 r2 in
       let r4 = next_channel c3 _ four.3 _ 3 _ _ a (lit< tt) e3 r3 in
-      ap (λ (i : ℕ). (Done i, spread 1 store 0 (bytes_from px p (4 * w)))) ends
-      ∙ ap (λ (l : List ℕ). (Done (at + length c0 + length c1 + length c2 + length c3), l)) (sym (weave px store 0 p w))
+      ap (λ (i : ℕ). (Ok i, spread 1 store 0 (bytes_from px p (4 * w)))) ends
+      ∙ ap (λ (l : List ℕ). (Ok (at + length c0 + length c1 + length c2 + length c3), l)) (sym (weave px store 0 p w))
       ∙ chans_done rule src w _ _ _ a r4 (lit≤ tt)
 
 -- ---- What is asked of a rule
@@ -90,7 +90,7 @@ module _ (parts : read.RowParts) (fit : Fit parts) where
   -- where a mark stands, and then the four: just these bytes are taken, and the pixels are in the store
   pub marked_there : (w : ℕ) (src px : List ℕ) (p : ℕ) (c0 c1 c2 c3 : List ℕ) → FourRead fit.counts px p w c0 c1 c2 c3 → (at : ℕ) (store rest : List ℕ) → 8 ≤ w → w ≤ 32767
       → drop at src ≡ 2 ∷ 2 ∷ (w / 256) ∷ (w % 256) ∷ (c0 ++ (c1 ++ (c2 ++ (c3 ++ rest))))
-      → (Done (at + length (2 ∷ 2 ∷ (w / 256) ∷ (w % 256) ∷ (c0 ++ (c1 ++ (c2 ++ c3))))), spread 1 store 0 (bytes_from px p (4 * w))) ≡ read.row_by parts src at store w
+      → (Ok (at + length (2 ∷ 2 ∷ (w / 256) ∷ (w % 256) ∷ (c0 ++ (c1 ++ (c2 ++ c3))))), spread 1 store 0 (bytes_from px p (4 * w))) ≡ read.row_by parts src at store w
   marked_there w src px p c0 c1 c2 c3 four at store rest l h e =
       let m0 = drop_next src at 2 _ e in
       let m1 = drop_next src (at + 1) 2 _ m0.2 in
@@ -107,14 +107,14 @@ module _ (parts : read.RowParts) (fit : Fit parts) where
       let size : next ≡ at + 4 + length c0 + length c1 + length c2 + length c3 = omega (arith, length-append c0 (c1 ++ (c2 ++ c3)), length-append c1 (c2 ++ c3), length-append c2 c3) in
       let start : List ℕ = parts.start src at store in
       let body = channels_there fit.counts w src px p c0 c1 c2 c3 four (at + 4) start rest (rw end at m3.2) next size in
-      ap (λ (l : List ℕ). (Done next, l)) (sym (fit.covered src at store px p w (omega arith) marked))
+      ap (λ (l : List ℕ). (Ok next, l)) (sym (fit.covered src at store px p w (omega arith) marked))
       ∙ body
       ∙ sym (fit.channels src (at + 4) start w)
       ∙ by_mark parts src at store w (coded_width w l h) marked (fit.right src at w mark)
 
   -- a coded row
   coded_there : (px : List ℕ) (p w : ℕ) (src : List ℕ) (at : ℕ) (store rest : List ℕ) → is_coded w ≡ true → drop at src ≡ coded_row px p w ++ rest
-      → (Done (at + length (coded_row px p w)), spread 1 store 0 (bytes_from px p (4 * w))) ≡ read.row_by parts src at store w
+      → (Ok (at + length (coded_row px p w)), spread 1 store 0 (bytes_from px p (4 * w))) ≡ read.row_by parts src at store w
   unfolding coded_row
   coded_there px p w src at store rest t e =
       let widths = coded_widths w t in
@@ -136,10 +136,10 @@ same_repeat src px at p e =
 
 -- where such pixels stand, a flat part takes just them, one after another
 pub flat_there : (rule : FlatRule) (px src : List ℕ) (p n at place : ℕ) (store rest : List ℕ) (a : Taken × List ℕ) → drop at src ≡ bytes_from px p (4 * n) ++ rest → NoRepeat px p n
-    → Runs (flat_turn rule src) flat_out (length src - at) (flat at place n 0 store) a → (Done (at + 4 * n), spread 1 store place (bytes_from px p (4 * n))) ≡ a
+    → Runs (flat_turn rule src) flat_out (length src - at) (flat at place n 0 store) a → (Ok (at + 4 * n), spread 1 store place (bytes_from px p (4 * n))) ≡ a
 unfolding spread bytes_from
 flat_there rule px src p zero at place store rest a e none r =
-    ap (λ (i : ℕ). (Done i, store)) (omega arith) ∙ flat_done rule src at place 0 0 store a r (omega arith)
+    ap (λ (i : ℕ). (Ok i, store)) (omega arith) ∙ flat_done rule src at place 0 0 store a r (omega arith)
 flat_there rule px src p (suc n) at place store rest a e none r =
     let pixel : List ℕ = bytes_from px p 4 in
     let others : List ℕ = bytes_from px (p + 4) (4 * n) in
@@ -157,8 +157,8 @@ flat_there rule px src p (suc n) at place store rest a e none r =
     let ends : at + 4 * suc n ≡ at + 4 + 4 * n = omega arith in
     let stored : spread 1 store place (bytes_from px p (4 * suc n)) ≡ spread 1 (spread 1 store place (bytes_from src at 4)) (place + 4) others =
     ap (spread 1 store place) (bytes_four px p n) ∙ spread_append 1 store place pixel others ∙ ap (λ (l : List ℕ). spread 1 (spread 1 store place l) (place + 4) others) (sym same) in
-    ap (λ (i : ℕ). (Done i, spread 1 store place (bytes_from px p (4 * suc n)))) ends
-    ∙ ap (λ (l : List ℕ). (Done (at + 4 + 4 * n), l)) stored
+    ap (λ (i : ℕ). (Ok i, spread 1 store place (bytes_from px p (4 * suc n)))) ends
+    ∙ ap (λ (l : List ℕ). (Ok (at + 4 + 4 * n), l)) stored
     ∙ flat_there rule px src (p + 4) n (at + 4) (place + 4) _ rest a after later (rw left at turned)
 
 -- ---- either row
@@ -172,7 +172,7 @@ is_flat w e = simp e
 abbrev pub RowsBack : read.RowRule → Type 0
 RowsBack rule =
     (px pre rest store : List ℕ) (p w : ℕ) → (is_coded w ≡ false → NoRepeat px p w)
-    → rule (pre ++ (written_row px p w ++ rest)) (length pre) store w ≡ (Done (length pre + length (written_row px p w)), spread 1 store 0 (bytes_from px p (4 * w)))
+    → rule (pre ++ (written_row px p w ++ rest)) (length pre) store w ≡ (Ok (length pre + length (written_row px p w)), spread 1 store 0 (bytes_from px p (4 * w)))
 
 pub row_back : (parts : read.RowParts) → Fit parts → RowsBack (read.row_by parts)
 row_back parts fit px pre rest store p w none = go (is_coded w) refl
@@ -183,17 +183,17 @@ row_back parts fit px pre rest store p w none = go (is_coded w) refl
     here : drop (length pre) src ≡ written_row px p w ++ rest
     here = drop-append_seam pre (written_row px p w ++ rest)
 
-    go : (t : Bool) → is_coded w ≡ t → read.row_by parts src (length pre) store w ≡ (Done (length pre + length (written_row px p w)), spread 1 store 0 (bytes_from px p (4 * w)))
+    go : (t : Bool) → is_coded w ≡ t → read.row_by parts src (length pre) store w ≡ (Ok (length pre + length (written_row px p w)), spread 1 store 0 (bytes_from px p (4 * w)))
     go true t =
         sym (coded_there parts fit px p w src (length pre) store rest t (here ∙ ap (λ (l : List ℕ). l ++ rest) (row_coded px p w t)))
-        ∙ ap (λ (l : List ℕ). (Done (length pre + length l), spread 1 store 0 (bytes_from px p (4 * w)))) (sym (row_coded px p w t))
+        ∙ ap (λ (l : List ℕ). (Ok (length pre + length l), spread 1 store 0 (bytes_from px p (4 * w)))) (sym (row_coded px p w t))
     go false t =
         let a = flat_of fit.flats src (length pre) store 0 w in
         let flat-row = flat_there fit.flats px src p w (length pre) 0 store rest a (here ∙ ap (λ (l : List ℕ). l ++ rest) (row_flat px p w t)) (none t) (flat_starts fit.flats src (length pre) store 0 w) in
         sym (by_width parts src (length pre) store w true (is_flat w t) refl)
         ∙ fit.flat src (length pre) store 0 w
         ∙ sym flat-row
-        ∙ ap (λ (n : ℕ). (Done (length pre + n), spread 1 store 0 (bytes_from px p (4 * w)))) (sym (flat_size px p w t))
+        ∙ ap (λ (n : ℕ). (Ok (length pre + n), spread 1 store 0 (bytes_from px p (4 * w)))) (sym (flat_size px p w t))
 
 -- ---- Either reading
 
