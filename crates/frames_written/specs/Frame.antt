@@ -13,6 +13,15 @@ written_rows px at w (suc h) = written_row px at w ++ written_rows px (at + 4 * 
 unfoldable pub frame_of : List ℕ → ℕ → ℕ → List ℕ
 frame_of px w h = written w h ++ written_rows px 0 w h
 
+-- h rows of w pixels, each from the bytes of its own
+unfoldable pub rows_by : (ℕ → List ℕ) → ℕ → ℕ → List ℕ
+rows_by line w zero = []
+rows_by line w (suc k) = rows_by line w k ++ written_row (line k) 0 w
+
+-- the header, and then these rows
+unfoldable pub frame_by : (ℕ → List ℕ) → ℕ → ℕ → List ℕ
+frame_by line w h = written w h ++ rows_by line w h
+
 -- the file of a frame of samples is that of its pixels' bytes
 abbrev pub file_of : List Float → ℕ → ℕ → List ℕ
 file_of samples w h = frame_of (packed samples 0 (w * h)) w h

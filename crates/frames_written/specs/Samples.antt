@@ -1,5 +1,5 @@
 -- A frame of samples: its pixels as four bytes each, and the first that cannot be written.
-use Rattle.std.specs.Prelude.{ℕ, zero, suc, ◌+◌, ◌*◌, ◌<◌, true, false, List, [], ◌∷◌, ◌≡◌, get_or, Float}
+use Rattle.std.specs.Prelude.{ℕ, zero, suc, ◌+◌, ◌*◌, ◌<◌, true, false, Option, Some, None, List, [], ◌∷◌, ◌≡◌, get_or, Float}
 use Rattle.std.specs.Float.{nan}
 use Rattle.pixel.specs.declared.Pixel.{Pixel}
 use Rattle.pixel.specs.declared.Rgbe.{Rgbe}
@@ -22,6 +22,11 @@ packed samples i (suc n) = four (bytes_of (pixel_at samples i)) (packed samples 
 unfoldable pub first_bright : List Float → ℕ → ℕ → ℕ
 first_bright samples i zero = zero
 first_bright samples i (suc n) = elim (too_bright (pixel_at samples i)) [ true ↦ zero | false ↦ suc (first_bright samples (i + 3) n) ]
+
+-- of n pixels, the first from sample i on, `found` is the first that cannot be written; none where every one can
+abbrev pub FirstOf : List Float → ℕ → ℕ → Option ℕ → Type 0
+FirstOf samples i n None = first_bright samples i n ≡ n
+FirstOf samples i n (Some k) = (k < n) × (first_bright samples i n ≡ k)
 
 -- of n pixels, k is the first that cannot be written
 pub record FirstBright (samples : List Float) (n k : ℕ) : Type 0 where

@@ -1,8 +1,33 @@
-// A frame of four-byte pixels: its length and its bytes.
-ghost use Rattle.std.specs.Prelude.{◌≡◌, ◌+◌, ◌*◌, ◌<◌, ◌≤◌, length, leb};
+// A frame, whatever its pixels are lent as: its length and its bytes.
+ghost use Rattle.std.specs.Prelude.{◌≡◌, ℕ, ◌+◌, ◌*◌, ◌<◌, ◌≤◌, List, length, leb};
 ghost use Rattle.steps.specs.Place.{spread};
 ghost use Rattle.rows_written.specs.Row.{worst_row};
-ghost use Rattle.frames_written.specs.Frame.{written_rows, frame_of, worst_of};
+ghost use Rattle.rows_written.specs.Row.{written_row};
+ghost use Rattle.frames_written.specs.Frame.{rows_by, frame_by, worst_of};
+ghost use Rattle.frames_written.specs.Inner.{RowOf, Kept};
+
+// The pixels of a frame, which is written row by row.
+pub trait Rows {
+    // h rows of w pixels are there, and can be written
+    ghost CanWrite: { Self → ℕ → ℕ → Type 0 };
+
+    // the pixels of row k of w pixels, four bytes to each
+    ghost line: { Self → ℕ → ℕ → List ℕ };
+
+    // How many bytes row k is written in.
+    fn row_length(&mut self, width: usize, k: usize) -> usize
+        requires { RowOf (CanWrite self.old width) k }
+        ensures value { result ≡ length (written_row (line self.old width k) 0 width) }
+        ensures kept { Kept CanWrite line self.old self.new };
+
+    // Stores row k from `to` on, and answers the place after it.
+    fn write_row(&mut self, width: usize, k: usize, out: &mut [u8], to: usize) -> usize
+        requires row { RowOf (CanWrite self.old width) k }
+        requires room { to + length (written_row (line self.old width k) 0 width) ≤ length out.old }
+        ensures next { result ≡ to + length (written_row (line self.old width k) 0 width) }
+        ensures stored { out.new ≡ spread 1 out.old to (written_row (line self.old width k) 0 width) }
+        ensures kept { Kept CanWrite line self.old self.new };
+}
 
 // The most that a row takes.
 fn worst_row(width: usize) -> usize
@@ -10,9 +35,10 @@ fn worst_row(width: usize) -> usize
     ensures { result ≡ worst_row width }
 {
     if steps::is_coded(width) {
-        return 4 + 4 * (width + (width + 127) / 128);
+        4 + 4 * (width + width.div_ceil(128))
+    } else {
+        4 * width
     }
-    4 * width
 }
 
 // The most that a frame takes.
@@ -24,61 +50,66 @@ pub fn worst_length(width: usize, height: usize) -> usize
 }
 
 // How many bytes the rows are written in.
-fn rows_length(px: &[u8], width: usize, height: usize) -> usize
-    requires { (width ≤ 65535) × (height ≤ 65535) × (4 * (width * height) ≤ length px.now) }
-    ensures { result ≡ length (written_rows px.now 0 width height) }
+fn rows_length<R: Rows>(rows: &mut R, width: usize, height: usize) -> usize
+    requires limits { (width ≤ 65535) × (height ≤ 65535) }
+    requires can { R.CanWrite rows.old width height }
+    ensures value { result ≡ length (rows_by (R.line rows.old width) width height) }
+    ensures kept { Kept R.CanWrite R.line rows.old rows.new }
 {
-    let mut at = 0;
-    let mut left = height;
     let mut n = 0;
-    while 0 < left {
-        n += rows_written::row_length(px, at, width);
-        at += 4 * width;
-        left -= 1;
+    for k in 0..height {
+        n += rows.row_length(width, k);
     }
     n
 }
 
 // How many bytes the frame is written in.
-pub fn frame_length(px: &[u8], width: usize, height: usize) -> usize
-    requires { (width ≤ 65535) × (height ≤ 65535) × (4 * (width * height) ≤ length px.now) }
-    ensures { result ≡ length (frame_of px.now width height) }
+pub fn frame_length<R: Rows>(rows: &mut R, width: usize, height: usize) -> usize
+    requires limits { (width ≤ 65535) × (height ≤ 65535) }
+    requires can { R.CanWrite rows.old width height }
+    ensures value { result ≡ length (frame_by (R.line rows.old width) width height) }
+    ensures kept { Kept R.CanWrite R.line rows.old rows.new }
 {
-    header::length(width, height) + rows_length(px, width, height)
+    header::length(width, height) + rows_length(rows, width, height)
 }
 
 // Whether the frame is written in at most `room` bytes. Where they hold the worst length, its own is not asked for.
-pub fn fits(px: &[u8], width: usize, height: usize, room: usize) -> bool
-    requires { (width ≤ 65535) × (height ≤ 65535) × (4 * (width * height) ≤ length px.now) }
-    ensures { result ≡ leb (length (frame_of px.now width height)) room }
+pub fn fits<R: Rows>(rows: &mut R, width: usize, height: usize, room: usize) -> bool
+    requires limits { (width ≤ 65535) × (height ≤ 65535) }
+    requires can { R.CanWrite rows.old width height }
+    ensures value { result ≡ leb (length (frame_by (R.line rows.old width) width height)) room }
+    ensures kept { Kept R.CanWrite R.line rows.old rows.new }
 {
-    if worst_length(width, height) <= room {
-        return true;
-    }
-    frame_length(px, width, height) <= room
+    worst_length(width, height) <= room || frame_length(rows, width, height) <= room
 }
 
 // Stores the rows from `to` on, and answers the place after them.
-fn write_rows(px: &[u8], width: usize, height: usize, out: &mut [u8], to: usize) -> usize
-    requires { (4 * (width * height) ≤ length px.now) × (to + length (written_rows px.now 0 width height) ≤ length out.old) }
-    ensures { (result ≡ to + length (written_rows px.now 0 width height)) × (out.new ≡ spread 1 out.old to (written_rows px.now 0 width height)) }
+fn write_rows<R: Rows>(
+    rows: &mut R,
+    width: usize,
+    height: usize,
+    out: &mut [u8],
+    to: usize,
+) -> usize
+    requires can { R.CanWrite rows.old width height }
+    requires room { to + length (rows_by (R.line rows.old width) width height) ≤ length out.old }
+    ensures next { result ≡ to + length (rows_by (R.line rows.old width) width height) }
+    ensures stored { out.new ≡ spread 1 out.old to (rows_by (R.line rows.old width) width height) }
 {
-    let mut at = 0;
-    let mut left = height;
     let mut o = to;
-    while 0 < left {
-        o = rows_written::write_row(px, at, width, out, o);
-        at += 4 * width;
-        left -= 1;
+    for k in 0..height {
+        o = rows.write_row(width, k, out, o);
     }
     o
 }
 
 // Stores the frame, and answers its length.
-pub fn write_frame(px: &[u8], width: usize, height: usize, out: &mut [u8]) -> usize
-    requires { (4 * (width * height) ≤ length px.now) × (length (frame_of px.now width height) ≤ length out.old) }
-    ensures { (result ≡ length (frame_of px.now width height)) × (out.new ≡ spread 1 out.old 0 (frame_of px.now width height)) }
+pub fn write_frame<R: Rows>(rows: &mut R, width: usize, height: usize, out: &mut [u8]) -> usize
+    requires can { R.CanWrite rows.old width height }
+    requires room { length (frame_by (R.line rows.old width) width height) ≤ length out.old }
+    ensures value { result ≡ length (frame_by (R.line rows.old width) width height) }
+    ensures stored { out.new ≡ spread 1 out.old 0 (frame_by (R.line rows.old width) width height) }
 {
     let at = header::write(width, height, out);
-    write_rows(px, width, height, out, at)
+    write_rows(rows, width, height, out, at)
 }

@@ -1,14 +1,12 @@
 -- What each call of the writer answers, and what it leaves in the output.
-use Rattle.std.specs.Prelude.{ℕ, ◌+◌, ◌*◌, not, ◌||◌, List, [], ◌∷◌, ◌++◌, ◌≡◌, length, ltb, eqb, Float}
+use Rattle.std.specs.Prelude.{ℕ, ◌+◌, ◌*◌, not, ◌||◌, List, [], ◌∷◌, ◌++◌, ◌≡◌, Option, Result, length, ltb, eqb, Float}
 use Rattle.steps.specs.Loop.{pick}
 use Rattle.steps.specs.Place.{spread}
 use Rattle.steps.specs.Amount.{amount_of}
-use Rattle.steps.specs.declared.amount.Amount.{Amount}
-use Rattle.steps.specs.Answer.{Answer, done, refused, refuse, refusal_of, Check, check, checked}
+use Rattle.steps.specs.declared.refusal.Refusal.{Refusal}
+use Rattle.steps.specs.Answer.{Answer, done, refused, refuse, paper_of, Check, check, checked}
 use Rattle.frames_written.specs.Samples.{first_bright}
 use Rattle.frames_written.specs.Frame.{frame_of, file_of, worst_of}
-use Rattle.writer.specs.declared.WriteAnswer.{WriteAnswer}
-use Rattle.writer.specs.declared.WriteAnswer.TheVariants.{Done, Refused}
 
 -- ---- The checks
 
@@ -61,35 +59,30 @@ write4_of w h px out = checked (λ n. (refuse n, out)) (frame_checks w h (length
 
 -- ---- What the calls promise
 
--- the paper's answer, for each case of the call's answer
-abbrev pub paper_of : WriteAnswer → Answer ℕ
-paper_of (Done n) = done n
-paper_of (Refused refusal) = refusal_of refusal
-
 -- `writer::length`
-abbrev pub LengthPromise : ℕ → ℕ → List Float → WriteAnswer → Type 0
+abbrev pub LengthPromise : ℕ → ℕ → List Float → Result ℕ Refusal → Type 0
 LengthPromise w h samples answer = paper_of answer ≡ length_of w h samples
 
 -- `writer::length4`
-abbrev pub Length4Promise : ℕ → ℕ → List ℕ → WriteAnswer → Type 0
+abbrev pub Length4Promise : ℕ → ℕ → List ℕ → Result ℕ Refusal → Type 0
 Length4Promise w h px answer = paper_of answer ≡ length4_of w h px
 
 -- `writer::worst`
-abbrev pub WorstPromise : ℕ → ℕ → WriteAnswer → Type 0
+abbrev pub WorstPromise : ℕ → ℕ → Result ℕ Refusal → Type 0
 WorstPromise w h answer = paper_of answer ≡ worst_answer w h
 
 -- `writer::write`: its answer, and the output afterwards
-abbrev pub WritePromise : ℕ → ℕ → List Float → List ℕ → WriteAnswer → List ℕ → Type 0
+abbrev pub WritePromise : ℕ → ℕ → List Float → List ℕ → Result ℕ Refusal → List ℕ → Type 0
 WritePromise w h samples out answer out' = (paper_of answer, out') ≡ write_of w h samples out
 
 -- `writer::write4`
-abbrev pub Write4Promise : ℕ → ℕ → List ℕ → List ℕ → WriteAnswer → List ℕ → Type 0
+abbrev pub Write4Promise : ℕ → ℕ → List ℕ → List ℕ → Result ℕ Refusal → List ℕ → Type 0
 Write4Promise w h px out answer out' = (paper_of answer, out') ≡ write4_of w h px out
 
 -- RULES 7.1: 4wh + 1,024, and "none" where that passes 2^64 - 1
-abbrev pub expected_size : ℕ → ℕ → Amount
+abbrev pub expected_size : ℕ → ℕ → Option ℕ
 expected_size w h = amount_of (w * h * 4 + 1024)
 
 -- `writer::expected_buffer_size`
-abbrev pub ExpectedPromise : ℕ → ℕ → Amount → Type 0
+abbrev pub ExpectedPromise : ℕ → ℕ → Option ℕ → Type 0
 ExpectedPromise w h answer = answer ≡ expected_size w h

@@ -3,10 +3,11 @@
 
 mod checks;
 
-ghost use Rattle.std.specs.Prelude.{◌≡◌};
-ghost use Rattle.steps.specs.Answer.{refuse, refused};
+ghost use Rattle.std.specs.Prelude.{◌≡◌, ◌≤◌};
+ghost use Rattle.steps.specs.Answer.{paper_of};
+ghost use Rattle.frames_written.specs.Frame.{frame_by};
 ghost use Rattle.writer.specs.Write.{
-  paper_of,
+  stored,
   LengthPromise,
   Length4Promise,
   WorstPromise,
@@ -15,117 +16,72 @@ ghost use Rattle.writer.specs.Write.{
   ExpectedPromise,
 };
 
-use frames_written::{frame, samples};
-use steps::amount::Amount;
-use steps::refusal::Refusal;
-use steps::{amount, refusal};
-
-// What a call of the writer answers: the length of the file, or a refusal.
-#[derive(Clone, Copy)]
-pub enum WriteAnswer {
-    Done(usize),
-    Refused(Refusal),
-}
-
-// A refusal that names no place.
-fn refused(number: u8) -> WriteAnswer
-    ensures { paper_of result ≡ refuse number }
-{
-    WriteAnswer::Refused(Refusal { number, place: 0 })
-}
-
-// The refusal of the first pixel that is too bright.
-fn too_bright(pixel: usize) -> WriteAnswer
-    ensures { paper_of result ≡ refused 12 pixel }
-{
-    WriteAnswer::Refused(Refusal {
-        number: refusal::TOO_BRIGHT,
-        place: pixel,
-    })
-}
+use frames_written::frame;
+use frames_written::frame::Rows;
+use frames_written::pixels::Pixels;
+use frames_written::samples::Samples;
+use steps::refusal::{Reason, Refusal};
 
 // How long the file of a frame of samples is.
-pub fn length(width: usize, height: usize, samples: &[f32]) -> WriteAnswer
+pub fn length(width: usize, height: usize, samples: &[f32]) -> Result<usize, Refusal>
     ensures { LengthPromise width height samples.now result }
 {
-    let number = checks::frame(width, height, samples.len(), 3);
-    if number != 0 {
-        return refused(number);
-    }
-    let k = samples::first_bright(samples, width, height);
-    if k < width * height {
-        return too_bright(k);
-    }
-    let mut line = [0u8; 131072];
-    WriteAnswer::Done(samples::frame_length(samples, width, height, &mut line))
+    checks::samples(width, height, samples)?;
+    Ok(frame::frame_length(&mut Samples::new(samples), width, height))
 }
 
 // How long the file of a frame of four-byte pixels is.
-pub fn length4(width: usize, height: usize, px: &[u8]) -> WriteAnswer
+pub fn length4(width: usize, height: usize, px: &[u8]) -> Result<usize, Refusal>
     ensures { Length4Promise width height px.now result }
 {
-    let number = checks::frame(width, height, px.len(), 4);
-    if number != 0 {
-        return refused(number);
-    }
-    WriteAnswer::Done(frame::frame_length(px, width, height))
+    checks::frame(width, height, px.len(), 4)?;
+    Ok(frame::frame_length(&mut Pixels { bytes: px }, width, height))
 }
 
 // The length that no file of that width and height passes.
-pub fn worst(width: usize, height: usize) -> WriteAnswer
+pub fn worst(width: usize, height: usize) -> Result<usize, Refusal>
     ensures { WorstPromise width height result }
 {
-    let number = checks::sizes(width, height);
-    if number != 0 {
-        return refused(number);
+    checks::sizes(width, height)?;
+    Ok(frame::worst_length(width, height))
+}
+
+// The file of these rows into the output, if there is room.
+fn store<R: Rows>(
+    rows: &mut R,
+    width: usize,
+    height: usize,
+    out: &mut [u8],
+) -> Result<usize, Refusal>
+    requires limits { (width ≤ 65535) × (height ≤ 65535) }
+    requires can { R.CanWrite rows.old width height }
+    ensures { (paper_of result, out.new) ≡ stored (frame_by (R.line rows.old width) width height) out.old }
+{
+    if !frame::fits(rows, width, height, out.len()) {
+        return Err(Reason::NoRoom.into());
     }
-    WriteAnswer::Done(frame::worst_length(width, height))
+    Ok(frame::write_frame(rows, width, height, out))
 }
 
 // The file of a frame of samples into the output.
-pub fn write(width: usize, height: usize, samples: &[f32], out: &mut [u8]) -> WriteAnswer
+pub fn write(width: usize, height: usize, samples: &[f32], out: &mut [u8]) -> Result<usize, Refusal>
     ensures { WritePromise width height samples.now out.old result out.new }
 {
-    let number = checks::frame(width, height, samples.len(), 3);
-    if number != 0 {
-        return refused(number);
-    }
-    let k = samples::first_bright(samples, width, height);
-    if k < width * height {
-        return too_bright(k);
-    }
-    let mut line = [0u8; 131072];
-    if samples::fits(samples, width, height, &mut line, out.len()) {
-        return WriteAnswer::Done(samples::write_frame(samples, width, height, &mut line, out));
-    }
-    refused(refusal::NO_ROOM)
+    checks::samples(width, height, samples)?;
+    store(&mut Samples::new(samples), width, height, out)
 }
 
 // The file of a frame of four-byte pixels into the output.
-pub fn write4(width: usize, height: usize, px: &[u8], out: &mut [u8]) -> WriteAnswer
+pub fn write4(width: usize, height: usize, px: &[u8], out: &mut [u8]) -> Result<usize, Refusal>
     ensures { Write4Promise width height px.now out.old result out.new }
 {
-    let number = checks::frame(width, height, px.len(), 4);
-    if number != 0 {
-        return refused(number);
-    }
-    if frame::fits(px, width, height, out.len()) {
-        return WriteAnswer::Done(frame::write_frame(px, width, height, out));
-    }
-    refused(refusal::NO_ROOM)
+    checks::frame(width, height, px.len(), 4)?;
+    store(&mut Pixels { bytes: px }, width, height, out)
 }
 
 // The Rust's formula for the length of a file, which some files pass.
-pub fn expected_buffer_size(width: usize, height: usize) -> Amount
+pub fn expected_buffer_size(width: usize, height: usize) -> Option<usize>
     ensures { ExpectedPromise width height result }
 {
-    let area = amount::product(width, height);
-    let Amount::Number(pixels) = area else {
-        return Amount::None;
-    };
-    let bytes = amount::product(pixels, 4);
-    match bytes {
-        Amount::Number(n) => amount::sum(n, 1024),
-        Amount::None => Amount::None,
-    }
+    width.checked_mul(height)?.checked_mul(4)?.checked_add(1024)
 }

@@ -1,5 +1,6 @@
 -- The laws that proofs use of `specs/Frame.antt`: the worst length, and a frame as its header and its rows. Within the limits nothing wraps.
-use Prim.Native.Nat.{ℕ, zero, suc, ◌+◌, ◌*◌, ◌/◌, ◌^◌, ◌<◌, ◌≤◌}
+use Rattle.std.specs.Int.{div_ceil}
+use Prim.Native.Nat.{ℕ, zero, suc, ◌+◌, ◌*◌, ◌^◌, ◌<◌, ◌≤◌}
 use mathlib.Core.Bool.{Bool, true, false}
 use mathlib.Core.List.{List}
 use mathlib.Core.Path.{◌≡◌, sym, ap, ◌∙◌}
@@ -16,7 +17,7 @@ use Rattle.header.proofs.Laws.Written.{written_length, digits_few}
 use Rattle.rows_written.specs.Row.{written_row, worst_row, worst_channel}
 use Rattle.steps.specs.Width.{is_coded}
 use Rattle.rows_written.proofs.Laws.Worst.{row_worst}
-use Rattle.frames_written.specs.Frame.{written_rows, frame_of, worst_of}
+use Rattle.frames_written.specs.Frame.{written_rows, rows_by, frame_of, frame_by, worst_of}
 
 -- ---- The worst length
 
@@ -30,9 +31,9 @@ worst_row_most w l = go (is_coded w)
 
 -- a row's worst length, by its kind
 module _ (w : ℕ) (t : Bool) (e : t ≡ is_coded w) where
-  pub worst_coded : t ≡ true → 4 + 4 * (w + (w + 127) / 128) ≡ worst_row w
+  pub worst_coded : (d : ℕ) → d ≡ div_ceil w 128 → t ≡ true → 4 + 4 * (w + d) ≡ worst_row w
   unfolding worst_row
-  worst_coded k = simp (sym e ∙ k)
+  worst_coded d h k = simp (sym e ∙ k) (omega arith)
 
   pub worst_flat : t ≡ false → 4 * w ≡ worst_row w
   unfolding worst_row
@@ -68,9 +69,6 @@ module _ (w h : ℕ) (hw : w ≤ 65535) (hh : h ≤ 65535) where
   header_fits : length (written w h) ≤ 101
   header_fits = omega (arith, written_length w h, digits_few w (omega arith), digits_few h (omega arith))
 
-  pub rows_fit : (px : List ℕ) → length (written_rows px 0 w h) ≤ 2 ^ 35
-  rows_fit px = omega (arith, rows_worst px 0 w h, worst_rows_fit)
-
   module _ (r : ℕ) (er : r ≡ worst_row w) where
     pub worst_product : h * r < 2 ^ 64
     worst_product = omega (arith, worst_rows_fit, ap (λ (k : ℕ). h * k) er)
@@ -85,33 +83,46 @@ module _ (w h : ℕ) (hw : w ≤ 65535) (hh : h ≤ 65535) where
 
 -- ---- A frame is its header and its rows
 
-module _ (px : List ℕ) (w h n : ℕ) (en : n ≡ length (written w h)) where
-  pub frame_is : (r : ℕ) → r ≡ length (written_rows px 0 w h) → n + r ≡ length (frame_of px w h)
-  frame_is r er = omega (arith, frame_size px w h)
+by_rows_worst : (line : ℕ → List ℕ) (w h : ℕ) → length (rows_by line w h) ≤ h * worst_row w
+unfolding rows_by
+by_rows_worst line w zero = omega arith
+by_rows_worst line w (suc h) = omega (arith, length-append (rows_by line w h) (written_row (line h) 0 w), row_worst (line h) 0 w, by_rows_worst line w h)
 
-  pub frame_sum : (r : ℕ) → r ≡ length (written_rows px 0 w h) → w ≤ 65535 → h ≤ 65535 → n + r < 2 ^ 64
-  frame_sum r er hw hh = omega (arith, header_fits w h hw hh, rows_fit w h hw hh px)
+module _ (line : ℕ → List ℕ) (w h : ℕ) where
+  by_size : length (frame_by line w h) ≡ length (written w h) + length (rows_by line w h)
+  unfolding frame_by
+  by_size = length-append (written w h) (rows_by line w h)
 
-  pub frame_placed : (r : ℕ) → r ≡ n + length (written_rows px 0 w h) → r ≡ length (frame_of px w h)
-  frame_placed r er = omega (arith, frame_size px w h)
+  by_worst : length (frame_by line w h) ≤ worst_of w h
+  unfolding worst_of
+  by_worst = omega (arith, by_size, by_rows_worst line w h)
 
-  module _ (out out' : List ℕ) (es : out' ≡ spread 1 out 0 (written w h)) where
-    pub frame_rows : length (frame_of px w h) ≤ length out → n + length (written_rows px 0 w h) ≤ length out'
-    frame_rows l = omega (arith, frame_size px w h, ap length es, length_spread 1 out 0 (written w h))
+  pub by_rows_fit : w ≤ 65535 → h ≤ 65535 → length (rows_by line w h) ≤ 2 ^ 35
+  by_rows_fit hw hh = omega (arith, by_rows_worst line w h, worst_rows_fit w h hw hh)
 
-    pub frame_stored : (out'' : List ℕ) → out'' ≡ spread 1 out' n (written_rows px 0 w h) → out'' ≡ spread 1 out 0 (frame_of px w h)
-    unfolding frame_of
-    frame_stored out'' et =
-        let at : n ≡ 0 + length (written w h) = omega arith in
-        et ∙ sym (spread_then out out' 0 n (written w h) (written_rows px 0 w h) es at)
-
-module _ (px : List ℕ) (w h : ℕ) (room n : ℕ) where
-  pub frame_header : length (frame_of px w h) ≤ room → length (written w h) ≤ room
-  frame_header l = omega (arith, frame_size px w h)
+  pub frame_header : (room : ℕ) → length (frame_by line w h) ≤ room → length (written w h) ≤ room
+  frame_header room l = omega (arith, by_size)
 
   -- where the worst length fits, the frame fits
-  pub fits_worst : n ≡ worst_of w h → n ≤ room → true ≡ leb (length (frame_of px w h)) room
-  fits_worst e l = sym (le-leb (length (frame_of px w h)) room (omega (arith, frame_worst px w h)))
+  pub fits_worst : (n room : ℕ) → n ≡ worst_of w h → n ≤ room → leb n room ≡ leb (length (frame_by line w h)) room
+  fits_worst n room e l = le-leb n room l ∙ sym (le-leb (length (frame_by line w h)) room (omega (arith, by_worst)))
 
-  pub fits_own : n ≡ length (frame_of px w h) → leb n room ≡ leb (length (frame_of px w h)) room
-  fits_own e = rw e
+  module _ (n : ℕ) (en : n ≡ length (written w h)) where
+    pub frame_is : (r : ℕ) → r ≡ length (rows_by line w h) → n + r ≡ length (frame_by line w h)
+    frame_is r er = omega (arith, by_size)
+
+    pub frame_sum : (r : ℕ) → r ≡ length (rows_by line w h) → w ≤ 65535 → h ≤ 65535 → n + r < 2 ^ 64
+    frame_sum r er hw hh = omega (arith, header_fits w h hw hh, by_rows_fit hw hh)
+
+    pub frame_placed : (r : ℕ) → r ≡ n + length (rows_by line w h) → r ≡ length (frame_by line w h)
+    frame_placed r er = omega (arith, by_size)
+
+    module _ (out out' : List ℕ) (es : out' ≡ spread 1 out 0 (written w h)) where
+      pub frame_rows : length (frame_by line w h) ≤ length out → n + length (rows_by line w h) ≤ length out'
+      frame_rows l = omega (arith, by_size, ap length es, length_spread 1 out 0 (written w h))
+
+      pub frame_stored : (out'' : List ℕ) → out'' ≡ spread 1 out' n (rows_by line w h) → out'' ≡ spread 1 out 0 (frame_by line w h)
+      unfolding frame_by
+      frame_stored out'' et =
+          let at : n ≡ 0 + length (written w h) = omega arith in
+          et ∙ sym (spread_then out out' 0 n (written w h) (rows_by line w h) es at)

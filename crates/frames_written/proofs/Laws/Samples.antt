@@ -2,9 +2,10 @@
 use Prim.Native.Nat.{ℕ, zero, suc, ◌+◌, ◌-◌, ◌*◌, ◌<◌, ◌≤◌}
 use mathlib.Core.Logic.{⊎_elim}
 use mathlib.Core.Bool.{Bool, true, false}
+use Rattle.std.specs.Prelude.{Some}
 use mathlib.Core.List.{List, [], ◌∷◌, ◌++◌}
 use mathlib.Core.Path.{◌≡◌, refl, sym, ap, ◌∙◌}
-use native.Mathlib.Nat.{not-suc-le-zero, mul-suc, mul-le-mul_left}
+use native.Mathlib.Nat.{not-suc-le-zero, mul-suc, mul-zero, mul-le-mul_left}
 use native.Mathlib.Numerals.{add-one}
 use native.Mathlib.Omega.{arith}
 use lib.ListN.{length, set}
@@ -12,10 +13,21 @@ use lib.Ieee.{Float}
 use Rattle.steps.proofs.Laws.Order.{lt_or_ge}
 use Rattle.steps.specs.Loop.{pick}
 use Rattle.steps.specs.Place.{spread}
+use Rattle.steps.proofs.Laws.Place.{spread_then}
 use Rattle.pixel.specs.declared.Pixel.{Pixel}
 use Rattle.pixel.specs.declared.Rgbe.{Rgbe}
 use Rattle.pixel.specs.Rgbe.{bytes_of, too_bright}
-use Rattle.frames_written.specs.Samples.{pixel_at, four, packed, first_bright, FirstBright}
+use Rattle.frames_written.specs.Samples.{pixel_at, four, packed, first_bright, FirstOf, FirstBright}
+
+-- ---- Places
+
+-- row k ends within h rows
+pub row_within : (w h k : ℕ) → k < h → w * k + w ≤ w * h
+row_within w h k l = omega (arith, mul-suc w k, mul-le-mul_left {m = suc k} {n = h} w l)
+
+-- the rows up to row k, and row k
+pub row_more : (w k : ℕ) → w * (k + 1) ≡ w * k + w
+row_more w k = omega (arith, ap (λ (n : ℕ). w * n) (add-one k), mul-suc w k)
 
 -- ---- The bytes of pixels
 
@@ -25,21 +37,6 @@ put_four s o a b c d =
     let j : o + 2 ≡ o + 1 + 1 = omega arith in
     let k : o + 3 ≡ o + 1 + 1 + 1 = omega arith in
     rw (j, k)
-
--- one pixel's bytes, and the rest
-pub packed_again : (samples : List Float) (out out' w : List ℕ) (i o n : ℕ) (p : Pixel) (q : Rgbe) → spread 1 out o (packed samples i n) ≡ w → 0 < n
-    → p ≡ pixel_at samples i → q ≡ bytes_of p → out' ≡ spread 1 out o (four q []) → spread 1 out' (o + 4) (packed samples (i + 3) (n - 1)) ≡ w
-unfolding spread packed
-packed_again samples out out' w i o zero p q e h ep eq eo = absurd (not-suc-le-zero h)
-packed_again samples out out' w i o (suc n) p q e h ep eq eo =
-    let k : suc n - 1 ≡ n = omega arith in
-    let j : o + 4 ≡ o + 1 + 1 + 1 + 1 = omega arith in
-    rw (eo, eq, ep, k, j) e
-
-pub packed_end : (samples : List Float) (out w : List ℕ) (i o n : ℕ) → spread 1 out o (packed samples i n) ≡ w → n ≤ 0 → out ≡ w
-unfolding spread packed
-packed_end samples out w i o zero e h = e
-packed_end samples out w i o (suc n) e h = absurd (not-suc-le-zero h)
 
 pub length_packed : (samples : List Float) (i n : ℕ) → length (packed samples i n) ≡ 4 * n
 unfolding packed
@@ -59,19 +56,20 @@ packed_append samples i (suc m) n =
     ap (packed samples i) more
     ∙ ap (four (bytes_of (pixel_at samples i))) (packed_append samples (i + 3) m n ∙ ap (λ (j : ℕ). packed samples (i + 3) m ++ packed samples j n) next)
 
--- ---- Rows and columns
+-- a loop that stores pixels from the front: one pixel's bytes more
+pub packed_start : (s : List ℕ) (i : ℕ) (samples : List Float) (j : ℕ) → s ≡ spread 1 s i (packed samples j 0)
+unfolding spread packed
+packed_start s i samples j = refl
 
--- the pixel in a row and a column
-pub pixel_within : (w h row column k : ℕ) → k ≡ w * row + column → row < h → column < w → k < w * h
-pixel_within w h row column k e r c = omega (arith, mul-suc w row, mul-le-mul_left {m = suc row} {n = h} w r)
-
--- a row lies within the frame
-pub row_within : (w h row k : ℕ) → k ≡ w * row → row < h → k + w ≤ w * h
-row_within w h row k e r = omega (arith, mul-suc w row, mul-le-mul_left {m = suc row} {n = h} w r)
-
--- a row ends where the next starts
-pub row_ends : (w row column k : ℕ) → k ≡ w * row + column → column ≤ w → w ≤ column → k ≡ w * (row + 1)
-row_ends w row column k e l g = omega (arith, ap (λ (n : ℕ). w * n) (add-one row), mul-suc w row)
+pub packed_next : (s out out' : List ℕ) (to i k o : ℕ) (samples : List Float) (p : Pixel) (q : Rgbe) → out ≡ spread 1 s to (packed samples i k)
+    → o ≡ to + 4 * k → p ≡ pixel_at samples (i + 3 * k) → q ≡ bytes_of p → out' ≡ spread 1 out o (four q []) → out' ≡ spread 1 s to (packed samples i (k + 1))
+unfolding packed
+packed_next s out out' to i k o samples p q e eo ep eq es =
+    let place : o ≡ to + length (packed samples i k) = omega (arith, length_packed samples i k) in
+    es
+    ∙ ap (λ (r : Rgbe). spread 1 out o (four r [])) (eq ∙ ap bytes_of ep)
+    ∙ sym (spread_then s out to o (packed samples i k) (packed samples (i + 3 * k) 1) e place)
+    ∙ ap (spread 1 s to) (sym (packed_append samples i k 1))
 
 -- ---- The first pixel that is too bright
 
@@ -145,39 +143,72 @@ module _ (samples : List Float) where
         let here : i + 3 * 0 ≡ i = omega arith in
         rw here at (none_each i n none 0 some)
 
-    pub none_next : first_bright samples (i + 3) (n - 1) ≡ n - 1
-    none_next =
-        let next : i + 3 * 1 ≡ i + 3 = omega arith in
-        rw next at (none_part i n 1 (n - 1) none (omega arith))
+  pub none_start : (i : ℕ) → first_bright samples i 0 ≡ 0
+  none_start i = omega (arith, bright_most i 0)
 
-  -- ---- a loop over rows and columns: k pixels were looked at, and f is the first that is too bright
+  -- ---- a search: the first m can be written, and then n come
 
-  pub bright_start : (n : ℕ) → 0 + first_bright samples (3 * 0) (n - 0) ≡ first_bright samples 0 n
-  bright_start n =
-      let all : n - 0 ≡ n = omega arith in
-      omega (arith, ap (first_bright samples 0) all)
+  pub bright_append : (i m n : ℕ) → first_bright samples i m ≡ m → first_bright samples i (m + n) ≡ m + first_bright samples (i + 3 * m) n
+  bright_append i zero n none =
+      let here : i + 3 * 0 ≡ i = omega arith in
+      let some : zero + n ≡ n = omega arith in
+      omega (arith, ap (first_bright samples i) some, ap (λ (j : ℕ). first_bright samples j n) here)
+  bright_append i (suc m) n none =
+      let more : suc m + n ≡ suc (m + n) = omega arith in
+      let next : i + 3 + 3 * m ≡ i + 3 * suc m = omega arith in
+      let rest = bright_append (i + 3) m n (none_part' i m none) in
+      omega (arith, ap (first_bright samples i) more, by_test i (m + n) false (none_here i (suc m) none (omega arith)), rest, ap (λ (j : ℕ). first_bright samples j n) next)
+    where
+      none_part' : (i m : ℕ) → first_bright samples i (suc m) ≡ suc m → first_bright samples (i + 3) m ≡ m
+      none_part' i m none =
+          let next : i + 3 * 1 ≡ i + 3 = omega arith in
+          rw next at (none_part i (suc m) 1 m none (omega arith))
 
-  module _ (w h row column k f : ℕ) (e : k + first_bright samples (3 * k) (w * h - k) ≡ f) where
-    module _ (ek : k ≡ w * row + column) (hr : row < h) (hc : column < w) (p : Pixel) (ep : p ≡ pixel_at samples (3 * k)) (t : Bool) (et : t ≡ too_bright p) where
-      by_turn : (b : Bool) → t ≡ b → first_bright samples (3 * k) (w * h - k) ≡ pick b zero (suc (first_bright samples (3 * (k + 1)) (w * h - (k + 1))))
-      by_turn b is =
-          let inside = pixel_within w h row column k ek hr hc in
-          let more : w * h - k ≡ suc (w * h - (k + 1)) = omega arith in
-          let next : 3 * k + 3 ≡ 3 * (k + 1) = omega arith in
-          ap (first_bright samples (3 * k)) more ∙ by_test (3 * k) (w * h - (k + 1)) b (ap too_bright (sym ep) ∙ sym et ∙ is)
-          ∙ ap (λ (i : ℕ). pick b zero (suc (first_bright samples i (w * h - (k + 1))))) next
+  -- what is found does not move where more pixels follow
+  pub bright_more : (i n m : ℕ) → first_bright samples i n < n → first_bright samples i (n + m) ≡ first_bright samples i n
+  bright_more i zero m l = absurd (not-suc-le-zero l)
+  bright_more i (suc n) m l = go (too_bright (pixel_at samples i)) refl (λ h. bright_more (i + 3) n m h)
+    where
+      more : suc n + m ≡ suc (n + m)
+      more = omega arith
 
-      pub bright_found : t ≡ true → k ≡ f
-      bright_found is = omega (arith, by_turn true is)
+      go : (t : Bool) → too_bright (pixel_at samples i) ≡ t → (first_bright samples (i + 3) n < n → first_bright samples (i + 3) (n + m) ≡ first_bright samples (i + 3) n)
+          → first_bright samples i (suc n + m) ≡ first_bright samples i (suc n)
+      go true e rec = ap (first_bright samples i) more ∙ by_test i (n + m) true e ∙ sym (by_test i n true e)
+      go false e rec = omega (arith, ap (first_bright samples i) more, by_test i (n + m) false e, by_test i n false e, rec (omega (arith, by_test i n false e)))
 
-      pub bright_again : t ≡ false → k + 1 + first_bright samples (3 * (k + 1)) (w * h - (k + 1)) ≡ f
-      bright_again is = omega (arith, by_turn false is)
+  -- the next of n pixels can be written
+  pub bright_next : (i k : ℕ) (p : Pixel) (t : Bool) → first_bright samples i k ≡ k → p ≡ pixel_at samples (i + 3 * k) → t ≡ too_bright p → t ≡ false → first_bright samples i (k + 1) ≡ k + 1
+  bright_next i k p t none ep et is =
+      omega (arith, bright_append i k 1 none, by_test (i + 3 * k) 0 false (ap too_bright (sym ep) ∙ sym et ∙ is), bright_most (i + 3 * k + 3) 0)
 
-    pub bright_none : k ≡ w * row → row ≤ h → h ≤ row → k ≡ f
-    bright_none ek l g =
-        let same : row ≡ h = omega arith in
-        let none : w * h - k ≡ 0 = omega (arith, ap (λ (n : ℕ). w * n) same) in
-        omega (arith, ap (first_bright samples (3 * k)) none, bright_most (3 * k) 0)
+  -- or it cannot
+  pub bright_found : (i k n : ℕ) (p : Pixel) (t : Bool) → k < n → first_bright samples i k ≡ k → p ≡ pixel_at samples (i + 3 * k) → t ≡ too_bright p → t ≡ true
+      → FirstOf samples i n (Some k)
+  bright_found i k n p t l none ep et is =
+      let rest : ℕ = n - (k + 1) in
+      let more : n ≡ k + suc rest = omega arith in
+      (l, omega (arith, ap (first_bright samples i) more, bright_append i k (suc rest) none, by_test (i + 3 * k) rest true (ap too_bright (sym ep) ∙ sym et ∙ is)))
+
+  pub rows_start : (w : ℕ) → first_bright samples 0 (w * 0) ≡ w * 0
+  rows_start w = let none : w * 0 ≡ 0 = omega (arith, mul-zero w) in rw none (none_start 0)
+
+  -- the next of h rows can be written
+  pub rows_next : (w k : ℕ) → first_bright samples 0 (w * k) ≡ w * k → first_bright samples (3 * (w * k)) w ≡ w → first_bright samples 0 (w * (k + 1)) ≡ w * (k + 1)
+  rows_next w k none next =
+      let here : 0 + 3 * (w * k) ≡ 3 * (w * k) = omega arith in
+      omega (arith, ap (first_bright samples 0) (row_more w k), bright_append 0 (w * k) w none, ap (λ (i : ℕ). first_bright samples i w) here, row_more w k)
+
+  -- or one of its pixels cannot
+  pub rows_found : (w h k c : ℕ) → k < h → first_bright samples 0 (w * k) ≡ w * k → FirstOf samples (3 * (w * k)) w (Some c) → FirstOf samples 0 (w * h) (Some (w * k + c))
+  rows_found w h k c l none f =
+      let here : 0 + 3 * (w * k) ≡ 3 * (w * k) = omega arith in
+      let within = row_within w h k l in
+      let rest : ℕ = w * h - (w * k + w) in
+      let more : w * h ≡ w * k + (w + rest) = omega arith in (
+        omega (arith, f.0),
+        omega (arith, ap (first_bright samples 0) more, bright_append 0 (w * k) (w + rest) none, ap (λ (i : ℕ). first_bright samples i (w + rest)) here, bright_more (3 * (w * k)) w rest (omega (arith, f.0, f.1)), f.1),
+      )
 
   -- ---- what is named
 

@@ -8,15 +8,14 @@ use borrow.Author.Tests.{ltb-true, ltb-false}
 use lib.ListN.{length, drop}
 use lib.Dec.{ltb}
 use lib.Ieee.{Float}
-use Rattle.steps.specs.Answer.{Answer, done, refused, refuse}
-use Rattle.steps.specs.declared.amount.Amount.{Amount}
-use Rattle.steps.proofs.Laws.Answer.{Passed, passed_by, differ, pass, call_of, one_answer}
+use Rattle.steps.specs.Answer.{Answer, done, refused, refuse, paper_of}
+use Rattle.std.specs.Prelude.{Option, Result}
+use Rattle.steps.specs.declared.refusal.Refusal.{Refusal}
+use Rattle.steps.proofs.Laws.Answer.{Passed, passed_by, differ, pass, one_answer}
 use Rattle.steps.proofs.Laws.Place.{spread_front}
 use Rattle.frames_written.specs.Samples.{first_bright, FirstBright}
 use Rattle.frames_written.specs.Frame.{frame_of, file_of}
-use Rattle.writer.specs.Write.{frame_checks, bright_checked, Left, stored, length_of, length4_of, write_of, write4_of, paper_of, LengthPromise, Length4Promise, WorstPromise, WritePromise, Write4Promise, ExpectedPromise}
-use Rattle.writer.specs.declared.WriteAnswer.{WriteAnswer}
-use Rattle.writer.specs.declared.WriteAnswer.TheVariants.{Done, Refused}
+use Rattle.writer.specs.Write.{frame_checks, bright_checked, Left, stored, length_of, length4_of, write_of, write4_of, LengthPromise, Length4Promise, WorstPromise, WritePromise, Write4Promise, ExpectedPromise}
 use Rattle.frames_written.proofs.Laws.Samples.{first_named, first_only}
 use Rattle.writer.proofs.Laws.Write.{bright_refuses, bright_passes, stored_fits, stored_none}
 
@@ -134,28 +133,21 @@ module _ (w h n : ℕ) where
 
 -- ---- One answer
 
-call_same : (a : WriteAnswer) → call_of Done Refused (paper_of a) ≡ a
-call_same (Done x) = refl
-call_same (Refused refusal) = refl
+both_once : (a b : Result ℕ Refusal) (o o' : List ℕ) → ◌≡◌ {A = Left} (paper_of a, o) (paper_of b, o') → (a ≡ b) × (o ≡ o')
+both_once a b o o' e = (one_answer a b (ap (λ (z : Left). z.0) e), ap (λ (z : Left). z.1) e)
 
-by_paper : (a b : WriteAnswer) → paper_of a ≡ paper_of b → a ≡ b
-by_paper = one_answer Done Refused paper_of call_same
-
-both_once : (a b : WriteAnswer) (o o' : List ℕ) → ◌≡◌ {A = Left} (paper_of a, o) (paper_of b, o') → (a ≡ b) × (o ≡ o')
-both_once a b o o' e = (by_paper a b (ap (λ (z : Left). z.0) e), ap (λ (z : Left). z.1) e)
-
-pub expected_once : (w h : ℕ) (a b : Amount) → ExpectedPromise w h a → ExpectedPromise w h b → a ≡ b
+pub expected_once : (w h : ℕ) (a b : Option ℕ) → ExpectedPromise w h a → ExpectedPromise w h b → a ≡ b
 expected_once w h a b p q = p ∙ sym q
 
-module _ (w h : ℕ) (a b : WriteAnswer) where
+module _ (w h : ℕ) (a b : Result ℕ Refusal) where
   pub length_once : (samples : List Float) → LengthPromise w h samples a → LengthPromise w h samples b → a ≡ b
-  length_once samples p q = by_paper a b (p ∙ sym q)
+  length_once samples p q = one_answer a b (p ∙ sym q)
 
   pub length4_once : (px : List ℕ) → Length4Promise w h px a → Length4Promise w h px b → a ≡ b
-  length4_once px p q = by_paper a b (p ∙ sym q)
+  length4_once px p q = one_answer a b (p ∙ sym q)
 
   pub worst_once : WorstPromise w h a → WorstPromise w h b → a ≡ b
-  worst_once p q = by_paper a b (p ∙ sym q)
+  worst_once p q = one_answer a b (p ∙ sym q)
 
   pub write_once : (samples : List Float) (out o o' : List ℕ) → WritePromise w h samples out a o → WritePromise w h samples out b o' → (a ≡ b) × (o ≡ o')
   write_once samples out o o' p q = both_once a b o o' (p ∙ sym q)

@@ -1,12 +1,18 @@
 -- `writer::length4` meets its contract: the checks, and then the length.
-use Rattle.writer.proofs.Laws.Write.{frame_wide, frame_high, frame_room, length4_refused, length4_done}
+use Rattle.std.proofs.lemmas.Result.{err_from_is_err_and}
+use native.Mathlib.Omega.{arith}
+use Rattle.writer.proofs.Laws.Write.{frame_ok, frame_passed, length4_refused, length4_done}
 use Rattle.writer.proofs.length4.Goals as goal
 
-pub returns-then-number-ne0 : goal.returns-then-number-ne0
-returns-then-number-ne0 c = search length4_refused
+pub returns-in_err-frame : goal.returns-in_err-frame
+returns-in_err-frame c =
+    let p = err_from_is_err_and c.from_residual.result c.from_residual.ensures.1 in
+    rw (p.1, p.2) (length4_refused _ _ _ _ c.in_err-frame.ensures)
 
 pub frame_length-requires : goal.frame_length-requires
-frame_length-requires c = (search frame_wide, search frame_high, search frame_room)
+frame_length-requires c =
+    let within = frame_passed _ _ _ _ (frame_ok _ _ _ _ c.in_ok-frame.ensures) in
+    record { limits = (within.0, within.1); can = omega (arith, within.2) }
 
 pub returns : goal.returns
-returns c = search length4_done
+returns c = length4_done _ _ _ (frame_ok _ _ _ _ c.in_ok-frame.ensures) _ c.frame_length.ensures.value

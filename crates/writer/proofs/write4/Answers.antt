@@ -1,18 +1,18 @@
--- `writer::write4` meets its contract: each `return` is a refusal, or the file is stored.
-use Rattle.writer.proofs.Laws.Write.{frame_wide, frame_high, frame_room, room_told, write4_refused, write4_short, write4_done}
+-- `writer::write4` meets its contract: the checks, and then the file is stored.
+use Rattle.std.proofs.lemmas.Result.{err_from_is_err_and}
+use native.Mathlib.Omega.{arith}
+use Rattle.writer.proofs.Laws.Write.{frame_ok, frame_passed, write4_refused, write4_done}
 use Rattle.writer.proofs.write4.Goals as goal
 
-pub returns-then-number-ne0 : goal.returns-then-number-ne0
-returns-then-number-ne0 c = search write4_refused
+pub returns-in_err-frame : goal.returns-in_err-frame
+returns-in_err-frame c =
+    let p = err_from_is_err_and c.from_residual.result c.from_residual.ensures.1 in
+    rw (p.1, p.2) (write4_refused _ _ _ _ c.in_err-frame.ensures _)
 
-pub fits-requires : goal.fits-requires
-fits-requires c = (search frame_wide, search frame_high, search frame_room)
-
-pub write_frame-requires : goal.write_frame-requires
-write_frame-requires c = (search frame_room, search room_told)
-
-pub returns-then-fits : goal.returns-then-fits
-returns-then-fits c = search write4_done
+pub store-requires : goal.store-requires
+store-requires c =
+    let within = frame_passed _ _ _ _ (frame_ok _ _ _ _ c.in_ok-frame.ensures) in
+    record { limits = (within.0, within.1); can = omega (arith, within.2) }
 
 pub returns : goal.returns
-returns c = search write4_short
+returns c = write4_done _ _ _ (frame_ok _ _ _ _ c.in_ok-frame.ensures) _ _ c.store.ensures

@@ -5,5 +5,5 @@ use Rattle.frames_written.proofs.frame.worst_row.Goals as goal
 pub returns-then-is_coded : goal.returns-then-is_coded
 returns-then-is_coded c = search worst_coded
 
-pub returns : goal.returns
-returns c = search worst_flat
+pub returns-else-is_coded : goal.returns-else-is_coded
+returns-else-is_coded c = search worst_flat
