@@ -1,4 +1,7 @@
 -- Demand 3, read back: a frame that is written, and then read. Over whole numbers of 2^-149: 2^-32 is 2^117 of them, and 2^31 is 2^180.
+use Rattle.std.specs.Prelude.{Result, Ok}
+use Rattle.steps.specs.declared.refusal.Refusal.{Refusal}
+use Rattle.steps.specs.Answer.{paper_of}
 use Rattle.std.specs.Prelude.{ℕ, ◌-◌, ◌*◌, ◌^◌, ◌<◌, ◌≤◌, false, List, [], ◌∷◌, ◌++◌, ◌≡◌, pos, negsuc, Float, length, take, drop}
 use Rattle.std.specs.Float.{fin}
 use Rattle.steps.specs.Place.{spread}
@@ -16,12 +19,10 @@ use Rattle.flat_read.specs.Flat.{is_repeat}
 use Rattle.rows_read.specs.Row.{RowRule, crate_row}
 use Rattle.steps.specs.Width.{is_coded}
 use Rattle.reader.specs.Samples.{SampleRule}
-use Rattle.reader.specs.Read.{crate_pixel, read_by, paper_of, ReadPromiseBy}
-use Rattle.reader.specs.declared.ReadAnswer.{ReadAnswer}
+use Rattle.reader.specs.Read.{crate_pixel, read_by, ReadPromiseBy}
 use Rattle.frames_written.specs.Samples.{pixel_at}
 use Rattle.frames_written.specs.Frame.{frame_of, file_of}
 use Rattle.writer.specs.Write.{write_of, WritePromise, Write4Promise}
-use Rattle.writer.specs.declared.WriteAnswer.TheVariants.{Done}
 
 -- the pixel k of a frame, of three samples to a pixel
 abbrev pub pixel : List Float → ℕ → Pixel
@@ -95,15 +96,15 @@ ComesBack4 reading row_rule rule w h px =
 
 abbrev pub CallsComeBack : (ℕ → ℕ → ℕ → Type 0) → Reading → RowRule → SampleRule → ℕ → ℕ → List Float → Type 0
 CallsComeBack near reading row_rule rule w h samples =
-    (lent left : List ℕ) (n : ℕ) → WritePromise w h samples lent (Done n) left
-    → (rest : List ℕ) (widest highest : ℕ) (out out' : List Float) (store store' : List ℕ) (answer : ReadAnswer) → Enough w h widest highest out store
+    (lent left : List ℕ) (n : ℕ) → WritePromise w h samples lent (Ok n) left
+    → (rest : List ℕ) (widest highest : ℕ) (out out' : List Float) (store store' : List ℕ) (answer : Result Head Refusal) → Enough w h widest highest out store
     → ReadPromiseBy reading row_rule rule (take n left ++ rest) widest highest out store answer out' store'
     → ReadBack near reading w h n samples out (paper_of answer) out'
 
 abbrev pub CallsComeBack4 : Reading → RowRule → SampleRule → ℕ → ℕ → List ℕ → Type 0
 CallsComeBack4 reading row_rule rule w h px =
-    (lent left : List ℕ) (n : ℕ) → Write4Promise w h px lent (Done n) left
-    → (rest : List ℕ) (widest highest : ℕ) (out out' : List Float) (store store' : List ℕ) (answer : ReadAnswer) → Enough w h widest highest out store
+    (lent left : List ℕ) (n : ℕ) → Write4Promise w h px lent (Ok n) left
+    → (rest : List ℕ) (widest highest : ℕ) (out out' : List Float) (store store' : List ℕ) (answer : Result Head Refusal) → Enough w h widest highest out store
     → ReadPromiseBy reading row_rule rule (take n left ++ rest) widest highest out store answer out' store'
     → ReadBack4 reading rule w h n px out (paper_of answer) out'
 

@@ -4,8 +4,10 @@ use Rattle.std.specs.Prelude.{ℕ, zero, suc, ◌+◌, ◌*◌, ◌<◌, List, �
 use Rattle.steps.specs.Answer.{Answer, done, refused, refuse, Check}
 use Rattle.steps.specs.declared.Reading.{Reading}
 use Rattle.steps.specs.Numbered.{FirstFails}
-use Rattle.steps.specs.declared.Taken.{Taken}
-use Rattle.steps.specs.declared.Taken.TheVariants.{Done, Fault}
+use Rattle.steps.specs.Answer.{Taken}
+use Rattle.std.specs.Prelude.{Ok, Err}
+use Rattle.steps.specs.Refusal.{reason_number}
+use Rattle.steps.specs.declared.refusal.Reason.{Reason}
 use Rattle.header.specs.declared.Head.{Head}
 use Rattle.header.specs.Head.{head_checks, head_in}
 use Rattle.rows_read.specs.Row.{RowRule}
@@ -20,8 +22,8 @@ use Rattle.kept.specs.Back.{pixel}
 
 -- the place in the input after a row; one at fault takes nothing
 abbrev pub onward : Taken → ℕ → ℕ
-onward (Done next) at = next
-onward (Fault number) at = at
+onward (Ok next) at = next
+onward (Err reason) at = at
 
 -- the place in the input and the row store before row k, where the rows start at a place and with a store
 unfoldable pub before : RowRule → List ℕ → ℕ → ℕ → List ℕ → ℕ → ℕ × List ℕ
@@ -46,8 +48,12 @@ pub record Stand (rule : SampleRule) (stored : Stored) (after : ℕ → List ℕ
 
 -- no row before row n is at fault, and these rows stand in the output
 pub record RowsRead (row_rule : RowRule) (rule : SampleRule) (bytes : List ℕ) (stored : Stored) (at : ℕ) (store : List ℕ) (n : ℕ) (lent out : List Float) : Type 0 where
-  pub read : (k : ℕ) → k < n → (row_at row_rule bytes stored.long at store k).0 ≡ Done (before row_rule bytes stored.long at store (k + 1)).0
+  pub read : (k : ℕ) → k < n → (row_at row_rule bytes stored.long at store k).0 ≡ Ok (before row_rule bytes stored.long at store (k + 1)).0
   pub stand : Stand rule stored (λ k. (row_at row_rule bytes stored.long at store k).1) n lent out
+
+-- a row that is at fault by that number, and left the row store so
+abbrev pub FaultBy : ℕ → List ℕ → Taken × List ℕ → Type 0
+FaultBy number store row = (reason : Reason) × (number ≡ reason_number reason) × ((Err reason, store) ≡ row)
 
 -- After the rows. Done: all of them stand, the place is the one after the last, and so is the row store.
 -- Refused in row k: rows 0 to k-1 stand; row k is at fault by that number, and the row store is as it left it.
@@ -55,7 +61,7 @@ abbrev pub RowsLeft : RowRule → SampleRule → List ℕ → Stored → ℕ →
 RowsLeft row_rule rule bytes stored at lent store (done next) out' store' =
     RowsRead row_rule rule bytes stored at store stored.count lent out' × ((next, store') ≡ before row_rule bytes stored.long at store stored.count)
 RowsLeft row_rule rule bytes stored at lent store (refused number k) out' store' =
-    (k < stored.count) × RowsRead row_rule rule bytes stored at store k lent out' × ((Fault number, store') ≡ row_at row_rule bytes stored.long at store k)
+    (k < stored.count) × RowsRead row_rule rule bytes stored at store k lent out' × FaultBy number store' (row_at row_rule bytes stored.long at store k)
 
 -- the row store keeps its length, and everything beyond the 4w bytes of a row
 pub record StoreLeft (long : ℕ) (lent store : List ℕ) : Type 0 where

@@ -3,9 +3,8 @@ use Rattle.std.specs.Prelude.{true, false, List, [], ◌∷◌, ◌++◌, ℕ, z
 use Rattle.std.specs.Float.{nan, inf}
 use Rattle.steps.specs.Answer.{done, refused, refuse}
 use Rattle.steps.specs.declared.Reading.TheVariants.{Crate, Document}
-use Rattle.pixel.specs.declared.Packed.TheVariants.{Bytes, TooBright}
+use Rattle.std.specs.Prelude.{Some, None}
 use Rattle.stated.specs.declared.Colour.TheVariants.{Xyze}
-use Rattle.stated.specs.declared.Exposure.TheVariants.{Stated}
 use Rattle.stated.specs.Said.{nothing}
 use Rattle.header.specs.Head.{head}
 use Rattle.words.specs.Lines.{rgbe_line, line_feed, space}
@@ -102,23 +101,23 @@ shown =
     -- and by the document reading answered, with the same samples
     ∷ reads Document (file (format ++ exposure) (rows (digit 1) (digit 1)) ++ (128 ∷ 64 ∷ 32 ∷ 129 ∷ []))
     (replicate 3 (whole 1 1)) (replicate 4 7)
-    (done (head (record { colour = Xyze; exposure = Stated (whole 1 1) }) upright 1 1 56))
+    (done (head (record { colour = Some Xyze; exposure = Some (whole 1 1) }) upright 1 1 56))
     (part 257 8 ∷ part 129 8 ∷ part 65 8 ∷ []) (128 ∷ 64 ∷ 32 ∷ 129 ∷ [])
     -- 9: a no-break space behind an axis is not trimmed
     ∷ reads Crate (file [] (minus_y ++ (194 ∷ 160 ∷ space ∷ 48 ∷ space ∷ (plus_x ++ (space ∷ digit 1))))) (none ∷ []) (replicate 4 7) (refuse 2) (none ∷ []) (replicate 4 7)
     -- 10: sizes of 2^32 by 2^32
     ∷ reads Crate (file [] (rows huge huge)) (none ∷ []) (replicate 4 7) (refuse 4) (none ∷ []) (replicate 4 7)
     -- 11: pixels written
-    ∷ writes (pixel (part 1 1) (part 1 1) (part 1 1)) (Bytes (rgbe 128 128 128 128))
-    ∷ writes (pixel (whole 1 0) (part 1 1) (part 1 2)) (Bytes (rgbe 128 64 32 129))
-    ∷ writes (pixel (part 1 32) (part 1 32) (part 1 32)) (Bytes (rgbe 128 128 128 97))
-    ∷ writes (pixel (whole (2 ^ 24 - 1) 103) none none) (Bytes (rgbe 255 0 0 255))
-    ∷ writes (pixel (whole 1 127) (whole 1 0) (whole 1 0)) TooBright
-    ∷ writes (pixel (inf false) (whole 1 0) (whole 1 0)) TooBright
-    ∷ writes (pixel (inf true) (whole 1 0) (whole 1 0)) (Bytes (rgbe 0 128 128 129))
-    ∷ writes (pixel nan (whole 5 0) (whole 1 0)) (Bytes (rgbe 0 160 32 131))
+    ∷ writes (pixel (part 1 1) (part 1 1) (part 1 1)) (Some (rgbe 128 128 128 128))
+    ∷ writes (pixel (whole 1 0) (part 1 1) (part 1 2)) (Some (rgbe 128 64 32 129))
+    ∷ writes (pixel (part 1 32) (part 1 32) (part 1 32)) (Some (rgbe 128 128 128 97))
+    ∷ writes (pixel (whole (2 ^ 24 - 1) 103) none none) (Some (rgbe 255 0 0 255))
+    ∷ writes (pixel (whole 1 127) (whole 1 0) (whole 1 0)) None
+    ∷ writes (pixel (inf false) (whole 1 0) (whole 1 0)) None
+    ∷ writes (pixel (inf true) (whole 1 0) (whole 1 0)) (Some (rgbe 0 128 128 129))
+    ∷ writes (pixel nan (whole 5 0) (whole 1 0)) (Some (rgbe 0 160 32 131))
     -- 15: the f32 nearest to 0.004, three times; and a file of the pixel that the crate writes for it
-    ∷ writes (pixel (part 0x83126f 31) (part 0x83126f 31) (part 0x83126f 31)) (Bytes (rgbe 131 131 131 121))
+    ∷ writes (pixel (part 0x83126f 31) (part 0x83126f 31) (part 0x83126f 31)) (Some (rgbe 131 131 131 121))
     ∷ reads Crate (file [] (rows (digit 1) (digit 1)) ++ (1 ∷ 1 ∷ 1 ∷ 128 ∷ []))
     (replicate 3 (whole 1 1)) (replicate 4 7)
     (refused 25 0)

@@ -5,8 +5,7 @@ use Rattle.std.specs.Float.Ieee.{round}
 use Rattle.steps.specs.Answer.{Answer, done, refused, refuse}
 use Rattle.pixel.specs.declared.Pixel.{Pixel}
 use Rattle.pixel.specs.declared.Rgbe.{Rgbe}
-use Rattle.pixel.specs.declared.Packed.{Packed}
-use Rattle.pixel.specs.declared.Packed.TheVariants.{Bytes}
+use Rattle.std.specs.Prelude.{Option, Some}
 use Rattle.steps.specs.declared.Reading.{Reading}
 use Rattle.steps.specs.declared.Reading.TheVariants.{Crate, Document}
 use Rattle.pixel.specs.Rgbe.{units_of, pixel_of, packed_of}
@@ -24,7 +23,7 @@ pub data Case : Type 0 where
   -- these four bytes are this pixel by the reading
   shows : Reading → Rgbe → Pixel → Case
   -- this pixel is written so
-  writes : Pixel → Packed → Case
+  writes : Pixel → Option Rgbe → Case
   -- this channel is written as these bytes
   codes : List ℕ → List ℕ → Case
   -- these bytes by the reading, with this output and row store lent, and limits of 65,535: the answer, the output and the row store afterwards
@@ -112,8 +111,8 @@ skies =
     ∷ codes (5 ∷ 5 ∷ 9 ∷ 9 ∷ 9 ∷ 9 ∷ 9 ∷ 9 ∷ []) (130 ∷ 5 ∷ 134 ∷ 9 ∷ [])
     ∷ codes (5 ∷ 5 ∷ 6 ∷ 9 ∷ 9 ∷ 9 ∷ 9 ∷ 9 ∷ []) (3 ∷ 5 ∷ 5 ∷ 6 ∷ 133 ∷ 9 ∷ [])
     -- 7: samples to four bytes: 0.003 three times; -1, no number, 2^-32
-    ∷ writes (pixel dusk dusk dusk) (Bytes (rgbe 196 196 196 120))
-    ∷ writes (pixel (fin true 1 (pos 0)) nan (part 1 32)) (Bytes (rgbe 0 0 128 97))
+    ∷ writes (pixel dusk dusk dusk) (Some (rgbe 196 196 196 120))
+    ∷ writes (pixel (fin true 1 (pos 0)) nan (part 1 32)) (Some (rgbe 0 0 128 97))
     -- what 0.003 comes back as: 49/16384, which is 0.00299072265625; by the document reading 393/131072, which is 0.00299835205078125
     ∷ shows Crate (rgbe 196 196 196 120) (pixel (part 49 14) (part 49 14) (part 49 14))
     ∷ shows Document (rgbe 196 196 196 120) (pixel (part 393 17) (part 393 17) (part 393 17))

@@ -12,8 +12,9 @@ use Rattle.steps.specs.Loop.{pick, Turn, more, halt, run}
 use Rattle.steps.specs.Answer.{Answer, done, refused}
 use Rattle.steps.proofs.Laws.Turns.{Leads, run_keeps}
 use Rattle.steps.proofs.Laws.Machines.{more_halt, halted, same_run}
-use Rattle.steps.specs.declared.Taken.{Taken}
-use Rattle.steps.specs.declared.Taken.TheVariants.{Done, Fault}
+use Rattle.steps.specs.Answer.{Taken}
+use Rattle.std.specs.Prelude.{Ok, Err}
+use Rattle.steps.specs.Refusal.{reason_number}
 use Rattle.header.specs.declared.Head.{Head}
 use Rattle.header.specs.Head.{fields_of, header_of}
 use Rattle.header.proofs.Laws.Head.{header_taken, header_within}
@@ -61,8 +62,8 @@ module _ (gap : ℕ) (row_rule : RowRule) (rule : SampleRule) (past : NonePast g
       step : (y : Rows) → P y → Leads P Q (row_turn row_rule rule bytes stored y)
       step y p =
           rows_cases row_rule rule bytes stored y (Leads P Q)
-          (λ next o s h e. row y (Done next) s p (went_on row_rule rule stored.long (stored.place y.row) bytes y.at y.out o y.store s next e).0)
-          (λ number o s h e. row y (Fault number) s p (faulted row_rule rule stored.long (stored.place y.row) bytes y.at y.out o y.store s number e).0)
+          (λ next o s h e. row y (Ok next) s p (went_on row_rule rule stored.long (stored.place y.row) bytes y.at y.out o y.store s next e).0)
+          (λ reason o s h e f. row y (Err reason) s p (faulted row_rule rule stored.long (stored.place y.row) bytes y.at y.out o y.store s reason e).0 (λ k. f.0 (ap reason_number k), f.1))
           (λ h f. p f)
 
   rows_of_past : (at : ℕ) (out : List Float) (store : List ℕ) → (Near gap (length bytes) n at → ⊥) → Firm gap (length bytes) n (rows_of row_rule rule bytes stored at out store).0 → ⊥
@@ -84,18 +85,18 @@ module _ (gap : ℕ) (row_rule : RowRule) (rule : SampleRule) (alone : Alone gap
       rows_cases row_rule rule bytes stored x (λ (z : Turn Rows Left). z ≡ more t → row_turn row_rule rule other stored x ≡ more t)
       (λ next o s l f k.
       let u : rows next (x.row + 1) s o ≡ t = cc in
-      turn_same x (Done next) s (went_on row_rule rule stored.long (stored.place x.row) bytes x.at x.out o x.store s next f).0
+      turn_same x (Ok next) s (went_on row_rule rule stored.long (stored.place x.row) bytes x.at x.out o x.store s next f).0
       (subst (λ (y : Rows). Near gap (length bytes) n y.at) (sym u) near) ∙ e)
-      (λ number o s l f k. more_halt t _ (sym k))
+      (λ reason o s l f k. more_halt t _ (sym k))
       (λ l k. more_halt t _ (sym k)) e
 
   rows_end : (x : Rows) (a : Left) → Firm gap (length bytes) n a.0 → row_turn row_rule rule bytes stored x ≡ halt a → row_turn row_rule rule other stored x ≡ halt a
   rows_end x a firm e =
       rows_cases row_rule rule bytes stored x (λ (z : Turn Rows Left). z ≡ halt a → row_turn row_rule rule other stored x ≡ halt a)
       (λ next o s l f k. more_halt _ _ k)
-      (λ number o s l f k.
-      turn_same x (Fault number) s (faulted row_rule rule stored.long (stored.place x.row) bytes x.at x.out o x.store s number f).0
-      (subst (λ (z : Left). Firm gap (length bytes) n z.0) (sym (halted k)) firm) ∙ e)
+      (λ reason o s l f k.
+      let holds = subst (λ (z : Left). Firm gap (length bytes) n z.0) (sym (halted k)) firm in
+      turn_same x (Err reason) s (faulted row_rule rule stored.long (stored.place x.row) bytes x.at x.out o x.store s reason f).0 (λ r. holds.0 (ap reason_number r), holds.1) ∙ e)
       (λ l k. turn_over x l ∙ e) e
 
   pub rows_alone : (at : ℕ) (out : List Float) (store : List ℕ) → Firm gap (length bytes) n (rows_of row_rule rule bytes stored at out store).0

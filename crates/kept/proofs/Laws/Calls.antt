@@ -11,6 +11,9 @@ use lib.Dec.{ltb, lit<, lit≤}
 use lib.Ieee.{Float}
 use lib.ListN.{length, take, drop}
 use lib.Seq.{take_at}
+use Rattle.std.specs.Prelude.{Result}
+use Rattle.steps.specs.declared.refusal.Refusal.{Refusal}
+use Rattle.steps.specs.Answer.{paper_of}
 use Rattle.steps.specs.Answer.{Answer}
 use Rattle.steps.proofs.Laws.Answer.{Passed}
 use Rattle.pixel.specs.Rgbe.{peak, too_bright}
@@ -22,8 +25,7 @@ use Rattle.header.specs.declared.Head.{Head}
 use Rattle.rows_read.specs.Row.{RowRule, row_of}
 use Rattle.back.proofs.Laws.Row.{RowsBack, reading_row_back}
 use Rattle.reader.specs.Samples.{SampleRule}
-use Rattle.reader.specs.Read.{pixel_by, read_by, paper_of, ReadPromiseBy}
-use Rattle.reader.specs.declared.ReadAnswer.{ReadAnswer}
+use Rattle.reader.specs.Read.{pixel_by, read_by, ReadPromiseBy}
 use Rattle.frames_written.specs.Samples.{first_bright}
 use Rattle.frames_written.specs.Frame.{frame_of, file_of}
 use Rattle.frames_written.proofs.Laws.Samples.{each_none}
@@ -46,7 +48,7 @@ sizes_passed w h got each p =
 -- ---- A reader on the bytes that the writer left: what holds of its definition on the file holds of the call
 
 module _ (reading : Reading) (row_rule : RowRule) (rule : SampleRule) where
-  module _ (file lent left : List ℕ) (n : ℕ) (wrote : Stored file lent n left) (rest : List ℕ) (widest highest : ℕ) (out out' : List Float) (store store' : List ℕ) (answer : ReadAnswer)
+  module _ (file lent left : List ℕ) (n : ℕ) (wrote : Stored file lent n left) (rest : List ℕ) (widest highest : ℕ) (out out' : List Float) (store store' : List ℕ) (answer : Result Head Refusal)
       (read : ReadPromiseBy reading row_rule rule (take n left ++ rest) widest highest out store answer out' store') where
     pub by_calls : (P : ℕ → Answer Head × List Float × List ℕ → Type 0) → P (length file) (read_by reading row_rule rule (file ++ rest) widest highest out store) → P n (paper_of answer, out', store')
     by_calls P p =

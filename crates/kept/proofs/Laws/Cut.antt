@@ -6,8 +6,9 @@ use mathlib.Core.Path.{◌≡◌, refl, sym, ap, ◌∙◌, subst}
 use native.Mathlib.Omega.{arith}
 use lib.Ieee.{Float}
 use lib.ListN.{length}
+use Rattle.std.specs.Prelude.{Ok}
 use Rattle.steps.specs.Answer.{done}
-use Rattle.steps.specs.declared.Taken.TheVariants.{Done}
+use Rattle.std.specs.Prelude.{Ok}
 use Rattle.steps.proofs.Laws.Loop.{Runs, runs_more}
 use Rattle.steps.proofs.Laws.Turns.{Leads, Falls}
 use Rattle.pixel.specs.declared.Rgbe.{Rgbe}
@@ -17,7 +18,6 @@ use Rattle.steps.specs.declared.Reading.TheVariants.{Crate}
 use Rattle.pixel.specs.Rgbe.{units_of, rgbe_at}
 use Rattle.loss.specs.Kept.{zeros}
 use Rattle.loss.proofs.Laws.Values.{black_zero}
-use Rattle.header.specs.declared.HeadAnswer.TheVariants.{Read}
 use Rattle.header.specs.Head.{taking}
 use Rattle.rows_read.specs.Row.{crate_row}
 use Rattle.rows_read.specs.Cut.{behind}
@@ -39,7 +39,7 @@ module _ (bytes : List ℕ) (stored : Stored) (a : Left) where
   Going x = Runs (row_turn crate_row crate_pixel bytes stored) no_rows (stored.count - x.row) x a
 
   falls : (x : Rows) → Falls (λ (y : Rows). stored.count - y.row) x (row_turn crate_row crate_pixel bytes stored x)
-  falls x = rows_cases crate_row crate_pixel bytes stored x (Falls (λ (y : Rows). stored.count - y.row) x) (λ at o s h e. omega arith) (λ number o s h e. tt) (λ h. tt)
+  falls x = rows_cases crate_row crate_pixel bytes stored x (Falls (λ (y : Rows). stored.count - y.row) x) (λ at o s h e. omega arith) (λ reason o s h e. tt) (λ h. tt)
 
   follow : (n : ℕ) (x y : Rows) → AfterRows bytes stored n x y → Going x → Going y
   follow zero x y e r = subst Going e r
@@ -53,7 +53,7 @@ module _ (bytes : List ℕ) (widest highest : ℕ) (out : List Float) (store : L
   abbrev pub last_out : List Float
   last_out = placed crate_pixel ((stored_of c.head).place c.last.row) last_store 0 (stored_of c.head).long c.last.out
 
-  last_step : (Done (length bytes), last_out, last_store) ≡ step_of crate_row crate_pixel (stored_of c.head).long ((stored_of c.head).place c.last.row) bytes c.last.at c.last.out c.last.store
+  last_step : (Ok (length bytes), last_out, last_store) ≡ step_of crate_row crate_pixel (stored_of c.head).long ((stored_of c.head).place c.last.row) bytes c.last.at c.last.out c.last.store
   unfolding step_of
   last_step = sym (rw (cut_row bytes c.last.at c.last.store (stored_of c.head).long c.cut))
 
@@ -63,13 +63,13 @@ module _ (bytes : List ℕ) (widest highest : ℕ) (out : List Float) (store : L
       let a = rows_of crate_row crate_pixel bytes stored c.head.taken out (cleared (stored_of c.head).long store) in
       let x = c.last in
       let r = follow bytes stored a c.count _ x c.before (rows_start crate_row crate_pixel bytes stored c.head.taken out (cleared (stored_of c.head).long store)) in
-      let next = rows_again crate_row crate_pixel bytes stored x.at x.row x.store x.out a r (omega (arith, c.is_last)) (Done (length bytes)) last_out last_store last_step (length bytes) refl in
+      let next = rows_again crate_row crate_pixel bytes stored x.at x.row x.store x.out a r (omega (arith, c.is_last)) (Ok (length bytes)) last_out last_store last_step (length bytes) refl in
       rows_done crate_row crate_pixel bytes stored (length bytes) (x.row + 1) last_store last_out a next (omega (arith, c.is_last))
 
   -- it is done, and all its bytes are taken
   pub cut_file : read_by Crate crate_row crate_pixel bytes widest highest out store ≡ (done (taking c.head (length bytes)), last_out, last_store)
   cut_file =
-      sym (read_frame Crate crate_row crate_pixel bytes widest highest out store (Read c.head) (sym c.header) c.head _ refl
+      sym (read_frame Crate crate_row crate_pixel bytes widest highest out store (done c.head) (sym c.header) c.head _ refl
       (frame_rows crate_row crate_pixel bytes c.head out store c.room (λ e. omega (arith, c.some)) (stored_of c.head).long refl (cleared (stored_of c.head).long store) _ c.row refl (ap (framed c.head) all_rows)))
 
 -- ---- A pixel whose exponent byte is 0 is black
@@ -92,7 +92,7 @@ module _ (bytes : List ℕ) (stored : Stored) where
       rows_cases crate_row crate_pixel bytes stored x (Leads (SameLong x) (λ (z : Left). Unit {0}))
       (λ at o s h e. ap length (went_on crate_row crate_pixel stored.long (stored.place x.row) bytes x.at x.out o x.store s at e).1
       ∙ length_placed crate_pixel (stored.place x.row) s 0 stored.long x.out)
-      (λ number o s h e. tt) (λ h. tt)
+      (λ reason o s h e. tt) (λ h. tt)
 
   rows_long : (n : ℕ) (x y : Rows) → AfterRows bytes stored n x y → SameLong x y
   rows_long zero x y e = ap (λ (z : Rows). length z.out) (sym e)

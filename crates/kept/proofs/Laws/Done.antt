@@ -7,7 +7,6 @@ use Rattle.steps.specs.Answer.{Answer, done, refused, refuse}
 use Rattle.steps.specs.declared.Reading.{Reading}
 use Rattle.steps.proofs.Laws.Answer.{Passed, differ, pass, passed_by}
 use Rattle.header.specs.declared.Head.{Head}
-use Rattle.header.specs.declared.HeadAnswer.TheVariants.{Read, Refused}
 use Rattle.header.specs.Head.{header_of, taking}
 use Rattle.rows_read.specs.Row.{RowRule}
 use Rattle.reader.specs.Samples.{SampleRule}
@@ -49,10 +48,10 @@ module _ (reading : Reading) (row_rule : RowRule) (rule : SampleRule) (bytes : L
     by_header : (a : Answer Head) → header_of reading bytes widest highest ≡ a → read_by reading row_rule rule bytes widest highest out store ≡ (done head, out', store') → FileRead head out' store'
     unfolding frame_answer
     by_header (refused n p) eh e =
-        refused_done n p head out out' store store' (read_refused reading row_rule rule bytes widest highest out store (Refused (record { number = n; place = p })) (sym eh) (record { number = n; place = p }) refl ∙ e)
+        refused_done n p head out out' store store' (read_refused reading row_rule rule bytes widest highest out store (refused n p) (sym eh) n p refl ∙ e)
     by_header (done h) eh e =
         let through = passed_by (λ n. (refuse n, out, store)) (frame_checks h out store) (framed h (rows_by h)) (done head, out', store') (λ n k. refused_done n 0 head out out' store store' k)
-        (read_frame reading row_rule rule bytes widest highest out store (Read h) (sym eh) h _ refl refl ∙ e) in
+        (read_frame reading row_rule rule bytes widest highest out store (done h) (sym eh) h _ refl refl ∙ e) in
         let left = framed_done h (rows_by h) through.1 in
         record { own = h; header = eh; checks = through.0; rows = left.0; said = left.1 }
 
@@ -63,5 +62,5 @@ module _ (reading : Reading) (row_rule : RowRule) (rule : SampleRule) (bytes : L
     unfolding frame_answer
     read_file f =
         let h = f.own in
-        sym (read_frame reading row_rule rule bytes widest highest out store (Read h) (sym f.header) h _ refl refl) ∙ pass (λ n. (refuse n, out, store)) (frame_checks h out store) (framed h (rows_by h)) f.checks
+        sym (read_frame reading row_rule rule bytes widest highest out store (done h) (sym f.header) h _ refl refl) ∙ pass (λ n. (refuse n, out, store)) (frame_checks h out store) (framed h (rows_by h)) f.checks
         ∙ ap (framed h) f.rows ∙ ap (λ (x : Head). (done x, out', store')) f.said

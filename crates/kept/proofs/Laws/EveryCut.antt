@@ -9,15 +9,15 @@ use lib.Dec.{eqb}
 use lib.Ieee.{Float}
 use lib.ListN.{length, take}
 use lib.Seq.{length-take-le, take-take}
+use Rattle.std.specs.Prelude.{Ok}
 use Rattle.steps.specs.Answer.{Answer, done, refused, refuse}
 use Rattle.steps.proofs.Laws.Answer.{pass}
 use Rattle.steps.proofs.Laws.Order.{by_order}
 use Rattle.steps.proofs.Laws.Taken.{never_both}
-use Rattle.steps.specs.declared.Taken.{Taken}
-use Rattle.steps.specs.declared.Taken.TheVariants.{Done}
+use Rattle.steps.specs.Answer.{Taken}
+use Rattle.std.specs.Prelude.{Ok}
 use Rattle.steps.specs.declared.Reading.TheVariants.{Document}
 use Rattle.header.specs.declared.Head.{Head}
-use Rattle.header.specs.declared.HeadAnswer.TheVariants.{Read}
 use Rattle.header.specs.Head.{header_of}
 use Rattle.rows_read.specs.Row.{document_row}
 use Rattle.rows_read.specs.Middle.{Alike, Rests}
@@ -111,7 +111,7 @@ module _ (bytes : List ℕ) (m widest highest : ℕ) (out out' : List Float) (st
     rows_are j h = rows_same document_row (reading_alone Document) begin bytes m (to_whole bytes m short) stored.long own.taken begun k done_rows j h
 
     -- the row k of the whole file is done, and ends behind the cut
-    whole_row : (row bytes k).0 ≡ Done (start bytes (k + 1))
+    whole_row : (row bytes k).0 ≡ Ok (start bytes (k + 1))
     whole_row = (rows_there Document bytes widest highest out out' store store' head f).0.read k at-fault.0
 
     ends_behind : m < start bytes (k + 1)
@@ -120,7 +120,7 @@ module _ (bytes : List ℕ) (m widest highest : ℕ) (out out' : List Float) (st
         (λ h. let rests : Rests 0 (length bytes) m (row bytes k).0 = subst (Rests 0 (length bytes) m) (sym whole_row) (h, omega (arith, short)) in
         let same = reading_alone Document bytes begin m (before document_row bytes stored.long own.taken begun k).0 (before document_row bytes stored.long own.taken begun k).1 stored.long (to_cut bytes m short) rests in
         let here : row begin k ≡ row bytes k = ap (λ (z : ℕ × List ℕ). document_row begin z.0 z.1 stored.long) (sym (starts k (omega arith))) ∙ same in
-        never_both (start bytes (k + 1)) 9 (sym whole_row ∙ sym (ap (λ (z : Taken × List ℕ). z.0) here) ∙ sym (ap (λ (z : Taken × List ℕ). z.0) at-fault.2)))
+        never_both (start bytes (k + 1)) at-fault.2.0 (sym whole_row ∙ sym (ap (λ (z : Taken × List ℕ). z.0) here) ∙ sym (ap (λ (z : Taken × List ℕ). z.0) at-fault.2.2)))
 
     in_row : CutIn bytes own store m k
     in_row = record {
@@ -132,7 +132,7 @@ module _ (bytes : List ℕ) (m widest highest : ℕ) (out out' : List Float) (st
     -- the rows before it are those of the whole file
     stand : RowsRead document_row document_pixel bytes stored own.taken begun k out o
     stand = record {
-      read = λ j h. ap (λ (z : Taken × List ℕ). z.0) (rows_are j h) ∙ at-fault.1.read j h ∙ ap (λ (z : ℕ × List ℕ). Done z.0) (sym (starts (j + 1) (omega arith)));
+      read = λ j h. ap (λ (z : Taken × List ℕ). z.0) (rows_are j h) ∙ at-fault.1.read j h ∙ ap (λ (z : ℕ × List ℕ). Ok z.0) (sym (starts (j + 1) (omega arith)));
       stand = record {
         rows = λ j i h l. at-fault.1.stand.rows j i h l ∙ ap (λ (z : Taken × List ℕ). document_pixel (rgbe_at z.1 (4 * i))) (sym (rows_are j h));
         rest = at-fault.1.stand.rest;
@@ -148,7 +148,7 @@ module _ (bytes : List ℕ) (m widest highest : ℕ) (out out' : List Float) (st
   answered : read_of Document begin widest highest out store ≡ framed own rows
   unfolding frame_answer
   answered =
-      sym (read_frame Document document_row document_pixel begin widest highest out store (Read own) (sym header_there) own _ refl refl) ∙ pass (λ n. (refuse n, out, store)) (frame_checks own out store) (framed own rows) f.checks
+      sym (read_frame Document document_row document_pixel begin widest highest out store (done own) (sym header_there) own _ refl refl) ∙ pass (λ n. (refuse n, out, store)) (frame_checks own out store) (framed own rows) f.checks
 
   abbrev Ended : Left → Type 0
   Ended z = RowsLeft document_row document_pixel begin stored own.taken out begun z.0 z.1 z.2

@@ -8,15 +8,15 @@ use native.Mathlib.Numerals.{add-one}
 use native.Mathlib.Omega.{arith}
 use lib.Ieee.{Float}
 use lib.ListN.{length, replicate, length-append}
+use Rattle.std.specs.Prelude.{Ok}
 use Rattle.steps.specs.Place.{bytes_from, spread}
 use Rattle.steps.specs.Answer.{Answer, done}
 use Rattle.steps.specs.declared.Reading.{Reading}
-use Rattle.steps.specs.declared.Taken.TheVariants.{Done}
+use Rattle.std.specs.Prelude.{Ok}
 use Rattle.steps.proofs.Laws.Loop.{Runs}
 use Rattle.steps.proofs.Laws.Place.{length_spread, spread_then}
 use Rattle.words.specs.Axes.{upright}
 use Rattle.header.specs.declared.Head.{Head}
-use Rattle.header.specs.declared.HeadAnswer.TheVariants.{Read}
 use Rattle.header.specs.Head.{limit, head, header_of}
 use Rattle.header.specs.Written.{written, written_said}
 use Rattle.back.proofs.Laws.Header.{header_back}
@@ -79,7 +79,7 @@ module _ (reading : Reading) (row_rule : RowRule) (rule : SampleRule) (back : Ro
     Gives at row store out a = Runs (reader.row_turn row_rule rule bytes (reader.stored_of (said reading w h))) reader.no_rows (h - row) (reader.rows at row store out) a
 
     row_read : (pre store others : List ℕ) (at : ℕ) → Ordinary px at w w → bytes ≡ pre ++ (written_row px at w ++ others)
-        → (Done (length pre + length (written_row px at w)), spread 1 store 0 (bytes_from px at (4 * w))) ≡ row_rule bytes (length pre) store w
+        → (Ok (length pre + length (written_row px at w)), spread 1 store 0 (bytes_from px at (4 * w))) ≡ row_rule bytes (length pre) store w
     row_read pre store others at none e = sym (ap (λ (l : List ℕ). row_rule l (length pre) store w) e ∙ back px pre others store at w none)
 
     -- one row, whose bytes stand after `pre`
@@ -88,10 +88,10 @@ module _ (reading : Reading) (row_rule : RowRule) (rule : SampleRule) (back : Ro
         → Gives (length (pre ++ written_row px at w)) (row + 1) (spread 1 store 0 (bytes_from px at (4 * w))) (spread 1 out (3 * (row * w)) (samples_from rule px at w)) a
     row_there row at pre store others out a e none room more r =
         let next : ℕ = length pre + length (written_row px at w) in
-        let step = step_done row_rule rule w (λ i. row * w + i) bytes (length pre) out store (Done next) _ (row_read pre store others at none e) next _ refl
+        let step = step_done row_rule rule w (λ i. row * w + i) bytes (length pre) out store (Ok next) _ (row_read pre store others at none e) next _ refl
         (ap (spread 1 out (3 * (row * w))) (sym (samples_stored rule px store at w room)) ∙ sym (placed_on rule (row * w) _ out w)) in
         rw (length-append pre (written_row px at w))
-        (rows_again row_rule rule bytes (reader.stored_of (said reading w h)) (length pre) row store out a r more (Done next) _ _ step next refl)
+        (rows_again row_rule rule bytes (reader.stored_of (said reading w h)) (length pre) row store out a r more (Ok next) _ _ step next refl)
 
     -- n rows, whose bytes stand after `pre`
     rows_there : (rest : List ℕ) (n row at : ℕ) (pre store : List ℕ) (out : List Float) (a : reader.Left)
@@ -134,7 +134,7 @@ module _ (reading : Reading) (row_rule : RowRule) (rule : SampleRule) (back : Ro
       by_rows =
           let header : header_of reading bytes widest highest ≡ done (said reading w h) =
           ap (λ (l : List ℕ). header_of reading l widest highest) split ∙ header_back w h (written_rows px 0 w h ++ rest) reading widest highest wide high in
-          read_frame reading row_rule rule bytes widest highest out store (Read (said reading w h)) (sym header) (said reading w h) _ refl
+          read_frame reading row_rule rule bytes widest highest out store (done (said reading w h)) (sym header) (said reading w h) _ refl
           (frame_rows row_rule rule bytes (said reading w h) out store room (λ e. omega arith) w refl (reader.cleared w store) _ row refl refl)
 
       pub frame_back : Ordinary px 0 w (h * w)

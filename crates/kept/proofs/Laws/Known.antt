@@ -8,6 +8,8 @@ use mathlib.Core.Path.{◌≡◌, refl, sym, subst}
 use lib.Dec.{ltb, lit≤}
 use lib.Ieee.{Float}
 use lib.ListN.{length}
+use Rattle.steps.specs.Refusal.{reason_number}
+use Rattle.std.specs.Prelude.{Err}
 use Rattle.steps.specs.Place.{spread}
 use Rattle.steps.specs.Answer.{Answer, done, refused, refuse, Check, check, checked}
 use Rattle.steps.specs.declared.refusal.Refusal.{Refusal}
@@ -19,19 +21,16 @@ use Rattle.stated.specs.Said.{nothing, fault_of}
 use Rattle.stated.proofs.Laws.Lines.{LineFault, said_number}
 use Rattle.header.specs.declared.Head.{Head}
 use Rattle.header.specs.Head.{fields_of, field_checks, said_in, head_checks, head_in, header_of, HeaderPromise}
-use Rattle.header.specs.declared.HeadAnswer.TheVariants as header
 use Rattle.steps.specs.declared.Reading.{Reading}
 use Rattle.steps.specs.declared.Reading.TheVariants.{Crate, Document}
 use Rattle.rows_read.specs.Row.{row_of, RowFault}
 use Rattle.reader.specs.Frame.{stored_of, cleared, rows_of}
 use Rattle.reader.specs.Read.{frame_checks, pixel_by, answer_of, framed, read_by, ReadPromise}
-use Rattle.reader.specs.declared.ReadAnswer.TheVariants as read
 use Rattle.reader.proofs.Laws.Read.{rows_number}
 use Rattle.frames_written.specs.Samples.{first_bright}
 use Rattle.frames_written.specs.Frame.{frame_of, worst_of, file_of}
 use Rattle.writer.specs.Write as writer
 use Rattle.writer.specs.Write.{size_checks, bright_checked, stored, length_of, length4_of, worst_answer, write_of, write4_of, LengthPromise, Length4Promise, WorstPromise, WritePromise, Write4Promise}
-use Rattle.writer.specs.declared.WriteAnswer.TheVariants as write
 
 -- from one number to another
 abbrev pub Within : ℕ → ℕ → ℕ → Type 0
@@ -85,7 +84,7 @@ unfolding said_in
 line_number Crate bytes number place e = differ nothing number place e
 line_number Document bytes number place e = (said_number Document bytes _ number place e).0
 
-pub header_known : (reading : Reading) (bytes : List ℕ) (widest highest : ℕ) (refusal : Refusal) → HeaderPromise reading bytes widest highest (header.Refused refusal) → HeadNumber reading refusal.number
+pub header_known : (reading : Reading) (bytes : List ℕ) (widest highest : ℕ) (refusal : Refusal) → HeaderPromise reading bytes widest highest (Err refusal) → HeadNumber reading (reason_number refusal.reason)
 unfolding header_of head_checks
 header_known reading bytes widest highest refusal promise =
     let f = fields_of bytes in
@@ -96,14 +95,14 @@ header_known reading bytes widest highest refusal promise =
       known_line (HeadNumber reading) (said_in reading bytes) checks (λ number place e. inr (line_number reading bytes number place e))
           (λ e. inl (lit≤ tt, lit≤ tt), (λ e. inl (lit≤ tt, lit≤ tt), (λ e. inl (lit≤ tt, lit≤ tt), (λ e. inl (lit≤ tt, lit≤ tt), tt)))),
     ) (λ n. refl) (known_done (HeadNumber reading) (head_in reading bytes)))
-    refusal.number refusal.place refl
+    (reason_number refusal.reason) refusal.place refl
 
 rows_known : (reading : Reading) (head : Head) (a : Answer ℕ) → ((number row : ℕ) → a ≡ refused number row → RowFault reading number) → Known (ReadNumber reading) (answer_of head a)
 rows_known reading head (done at) faults = known_done (ReadNumber reading) _
 rows_known reading head (refused number row) faults = known_refused (ReadNumber reading) number row (inr (inr (faults number row refl)))
 
 pub read_known : (reading : Reading) (bytes : List ℕ) (widest highest : ℕ) (out out' : List Float) (store store' : List ℕ) (refusal : Refusal)
-    → ReadPromise reading bytes widest highest out store (read.Refused refusal) out' store' → ReadNumber reading refusal.number
+    → ReadPromise reading bytes widest highest out store (Err refusal) out' store' → ReadNumber reading (reason_number refusal.reason)
 unfolding read_by head_checks
 read_known reading bytes widest highest out out' store store' refusal promise =
     let f = fields_of bytes in
@@ -118,7 +117,7 @@ read_known reading bytes widest highest out out' store store' refusal promise =
     )
     (λ n. refl)
     (rows_known reading head rows.0 (λ number row e. rows_number reading (pixel_by reading) bytes (stored_of head) head.taken out (cleared (stored_of head).long store) number row e)))
-    refusal.number refusal.place refl
+    (reason_number refusal.reason) refusal.place refl
 
 -- ---- Writing
 
@@ -143,29 +142,29 @@ module _ (w h : ℕ) where
       (λ e. (lit≤ tt, lit≤ tt), tt) (λ n. refl) (known_done (Within 7 13) (length file))
 
   module _ (refusal : Refusal) where
-    pub worst_known : WorstPromise w h (write.Refused refusal) → Within 7 13 refusal.number
+    pub worst_known : WorstPromise w h (Err refusal) → Within 7 13 (reason_number refusal.reason)
     unfolding worst_answer
     worst_known promise =
         subst (Known (Within 7 13)) (sym promise) (known_checked (Within 7 13) (λ a. a) refuse (size_checks w h) (done (worst_of w h)) sizes_within (λ n. refl) (known_done (Within 7 13) (worst_of w h)))
-        refusal.number refusal.place refl
+        (reason_number refusal.reason) refusal.place refl
 
-    pub length_known : (samples : List Float) → LengthPromise w h samples (write.Refused refusal) → Within 7 13 refusal.number
+    pub length_known : (samples : List Float) → LengthPromise w h samples (Err refusal) → Within 7 13 (reason_number refusal.reason)
     unfolding length_of
     length_known samples promise =
         let size : Answer ℕ = done (length (file_of samples w h)) in
         subst (Known (Within 7 13)) (sym promise)
         (known_checked (Within 7 13) (λ a. a) refuse (writer.frame_checks w h (length samples) 3) (bright_checked (λ a. a) samples (w * h) size) (frame_within (length samples) 3) (λ n. refl)
         (bright_known (λ a. a) (λ a. a) samples (w * h) size (λ a. refl) (known_done (Within 7 13) (length (file_of samples w h)))))
-        refusal.number refusal.place refl
+        (reason_number refusal.reason) refusal.place refl
 
-    pub length4_known : (px : List ℕ) → Length4Promise w h px (write.Refused refusal) → Within 7 13 refusal.number
+    pub length4_known : (px : List ℕ) → Length4Promise w h px (Err refusal) → Within 7 13 (reason_number refusal.reason)
     unfolding length4_of
     length4_known px promise =
         subst (Known (Within 7 13)) (sym promise)
         (known_checked (Within 7 13) (λ a. a) refuse (writer.frame_checks w h (length px) 4) (done (length (frame_of px w h))) (frame_within (length px) 4) (λ n. refl) (known_done (Within 7 13) (length (frame_of px w h))))
-        refusal.number refusal.place refl
+        (reason_number refusal.reason) refusal.place refl
 
-    pub write_known : (samples : List Float) (out out' : List ℕ) → WritePromise w h samples out (write.Refused refusal) out' → Within 7 13 refusal.number
+    pub write_known : (samples : List Float) (out out' : List ℕ) → WritePromise w h samples out (Err refusal) out' → Within 7 13 (reason_number refusal.reason)
     unfolding write_of
     write_known samples out out' promise =
         let rest : writer.Left = stored (file_of samples w h) out in
@@ -173,12 +172,12 @@ module _ (w h : ℕ) where
         (known_checked (Within 7 13) (λ (z : writer.Left). z.0) (λ n. (refuse n, out)) (writer.frame_checks w h (length samples) 3) (bright_checked (λ a. (a, out)) samples (w * h) rest)
         (frame_within (length samples) 3) (λ n. refl)
         (bright_known (λ (z : writer.Left). z.0) (λ a. (a, out)) samples (w * h) rest (λ a. refl) (stored_known (file_of samples w h) out)))
-        refusal.number refusal.place refl
+        (reason_number refusal.reason) refusal.place refl
 
-    pub write4_known : (px out out' : List ℕ) → Write4Promise w h px out (write.Refused refusal) out' → Within 7 13 refusal.number
+    pub write4_known : (px out out' : List ℕ) → Write4Promise w h px out (Err refusal) out' → Within 7 13 (reason_number refusal.reason)
     unfolding write4_of
     write4_known px out out' promise =
         subst (λ (z : writer.Left). Known (Within 7 13) z.0) (sym promise)
         (known_checked (Within 7 13) (λ (z : writer.Left). z.0) (λ n. (refuse n, out)) (writer.frame_checks w h (length px) 4) (stored (frame_of px w h) out) (frame_within (length px) 4) (λ n. refl)
         (stored_known (frame_of px w h) out))
-        refusal.number refusal.place refl
+        (reason_number refusal.reason) refusal.place refl

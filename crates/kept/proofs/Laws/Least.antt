@@ -8,10 +8,12 @@ use mathlib.Core.Bool.{true, false, false≢true}
 use mathlib.Core.Path.{◌≡◌, refl, sym, ap, subst, ◌∙◌}
 use lib.ListN.{length, get_or}
 use lib.Ieee.{Float}
+use Rattle.steps.specs.declared.refusal.Reason.TheVariants.{BytesEnd}
 use Rattle.steps.specs.Answer.{Answer, done, refused}
 use Rattle.steps.proofs.Laws.Taken.{never_both}
-use Rattle.steps.specs.declared.Taken.{Taken}
-use Rattle.steps.specs.declared.Taken.TheVariants.{Done, Fault}
+use Rattle.steps.specs.Answer.{Taken}
+use Rattle.std.specs.Prelude.{Ok, Err}
+use Rattle.steps.specs.declared.refusal.Reason.{Reason}
 use Rattle.steps.proofs.Laws.Order.{by_order}
 use Rattle.steps.proofs.Laws.Turns.{by_test, Leads, run_keeps}
 use Rattle.steps.proofs.Laws.Answer.{differ}
@@ -41,13 +43,13 @@ use Rattle.kept.proofs.Laws.Done.{file_read}
 -- ---- An answer that is no fault is not before a place
 
 record Took (p : ℕ) (a : Taken × List ℕ) : Type 0 where
-  pub upto : (next : ℕ) → a.0 ≡ Done next → p ≤ next
+  pub upto : (next : ℕ) → a.0 ≡ Ok next → p ≤ next
 
-took_done : {p q : ℕ} {s : List ℕ} → p ≤ q → Took p (Done q, s)
+took_done : {p q : ℕ} {s : List ℕ} → p ≤ q → Took p (Ok q, s)
 took_done {p} {q} h = record { upto = λ next e. let f : q ≡ next = cc in omega arith }
 
-took_fault : {p number : ℕ} {s : List ℕ} → Took p (Fault number, s)
-took_fault {number = number} = record { upto = λ next e. never_both next number (sym e) }
+took_fault : {p : ℕ} {reason : Reason} {s : List ℕ} → Took p (Err reason, s)
+took_fault {reason = reason} = record { upto = λ next e. never_both next reason (sym e) }
 
 took_less : {p q : ℕ} {a : Taken × List ℕ} → p ≤ q → Took q a → Took p a
 took_less h t = record { upto = λ next e. omega (arith, t.upto next e) }
@@ -61,10 +63,10 @@ flat_took src at store start wanted = record { upto = λ next e. omega (arith, (
 
 -- an answer that is no fault: the input has a byte at the place, and n bytes are taken from it on, or one less where the input ends
 record Coded (src : List ℕ) (at n : ℕ) (a : Taken × List ℕ) : Type 0 where
-  pub upto : (next : ℕ) → a.0 ≡ Done next → (at < length src) × (at + n ≤ next + 1) × (next < length src → at + n ≤ next)
+  pub upto : (next : ℕ) → a.0 ≡ Ok next → (at < length src) × (at + n ≤ next + 1) × (next < length src → at + n ≤ next)
 
-coded_fault : {src : List ℕ} {at n number : ℕ} {s : List ℕ} → Coded src at n (Fault number, s)
-coded_fault {number = number} = record { upto = λ next e. never_both next number (sym e) }
+coded_fault : {src : List ℕ} {at n : ℕ} {reason : Reason} {s : List ℕ} → Coded src at n (Err reason, s)
+coded_fault {reason = reason} = record { upto = λ next e. never_both next reason (sym e) }
 
 -- after some counts, d pixels of a channel from `at` on are done at the place p
 abbrev Counted : List ℕ → ℕ → ℕ → ℕ → Type 0
@@ -95,7 +97,7 @@ module _ (src : List ℕ) (bytes : AreBytes src) where
           (λ n d l e. let c = get_or src x.at 0 in
           let m : min (span_length c) (width - x.done) ≡ n = cc in
           (omega arith, count_more src at x.at x.done c n p.1 l (bytes x.at) (omega arith)))
-          (λ number d l e. coded_fault)
+          (λ reason d l e. coded_fault)
           (λ n d l e. coded_fault)
           (λ d l. coded_fault)
           (λ d. record {
@@ -127,7 +129,7 @@ module _ (src : List ℕ) (bytes : AreBytes src) where
           let q = p.4 l in
           let m : (x.channel + 1) * (2 * n) ≡ x.channel * (2 * n) + 2 * n = rw (add-one, suc-mul) in
           (omega arith, omega (arith, p.1, r.1), omega (arith, r.1), λ z. omega (arith, p.1), λ k. omega (arith, r.2 k)))
-          (λ number s c e. coded_fault)
+          (λ reason s c e. coded_fault)
           (λ c. record {
             upto = λ next e. let f : x.at ≡ next = cc in
                 let all : x.channel ≡ 4 = omega (arith, p.0) in
@@ -157,13 +159,13 @@ row_took src bytes at store width =
         (λ h e m. record { upto = λ next f. let r = (flat_took src (at + 4) s 4 (width - 1)).upto next f in (omega arith, omega (arith, r), λ l. omega (arith, r)) })
 
 -- where there are pixels, a row that is done has its first byte
-pub row_some : (src : List ℕ) (at : ℕ) (store : List ℕ) (width next : ℕ) → 0 < width → at ≤ length src → (crate_row src at store width).0 ≡ Done next → at < length src
+pub row_some : (src : List ℕ) (at : ℕ) (store : List ℕ) (width next : ℕ) → 0 < width → at ≤ length src → (crate_row src at store width).0 ≡ Ok next → at < length src
 unfolding row_of row_by parts_of
 row_some src at store width next w inside =
-    by_test (λ (a : Taken × List ℕ). a.0 ≡ Done next → at < length src) (is_flat_width width)
+    by_test (λ (a : Taken × List ℕ). a.0 ≡ Ok next → at < length src) (is_flat_width width)
     (λ t e. omega (arith, ((crate_plain src at store 0 width).upto next e).0, ((crate_plain src at store 0 width).upto next e).1 w))
-    (λ t. kind_cases src at (λ z. (rest_by (parts_of Crate) src at width z (crate_start src at store)).0 ≡ Done next → at < length src)
-    (λ e. never_both next 9 (sym e)) (λ h f e. h) (λ h f m e. omega arith) (λ h f m e. omega arith))
+    (λ t. kind_cases src at (λ z. (rest_by (parts_of Crate) src at width z (crate_start src at store)).0 ≡ Ok next → at < length src)
+    (λ e. never_both next BytesEnd (sym e)) (λ h f e. h) (λ h f m e. omega arith) (λ h f m e. omega arith))
 
 -- ---- The rows of a file
 
@@ -179,11 +181,11 @@ ends_refused {number = number} {row = row} = record { upto = λ next e. absurd (
 
 module _ (rule : SampleRule) (bytes : List ℕ) (are : AreBytes bytes) (stored : Stored) (at : ℕ) (inside : at ≤ length bytes) (out : List Float) (store : List ℕ) where
   -- a row that a step read, by its answer
-  read_row : (x : Rows) (next : ℕ) (o : List Float) (s : List ℕ) → (Done next, o, s) ≡ step_of crate_row rule stored.long (stored.place x.row) bytes x.at x.out x.store
-      → (crate_row bytes x.at x.store stored.long).0 ≡ Done next
+  read_row : (x : Rows) (next : ℕ) (o : List Float) (s : List ℕ) → (Ok next, o, s) ≡ step_of crate_row rule stored.long (stored.place x.row) bytes x.at x.out x.store
+      → (crate_row bytes x.at x.store stored.long).0 ≡ Ok next
   read_row x next o s e = ap (λ (z : Taken × List ℕ). z.0) (sym (went_on crate_row rule stored.long (stored.place x.row) bytes x.at x.out o x.store s next e).0)
 
-  on : (x : Rows) (next : ℕ) → x.at ≤ length bytes → (crate_row bytes x.at x.store stored.long).0 ≡ Done next → (x.at ≤ next) × (next ≤ length bytes)
+  on : (x : Rows) (next : ℕ) → x.at ≤ length bytes → (crate_row bytes x.at x.store stored.long).0 ≡ Ok next → (x.at ≤ next) × (next ≤ length bytes)
   on x next h e = (reading_sound Crate bytes x.at x.store stored.long).onward next e h
 
   flat_rows : is_flat_width stored.long ≡ true → Ends bytes (at + stored.count * (4 * stored.long)) (rows_of crate_row rule bytes stored at out store)
@@ -206,7 +208,7 @@ module _ (rule : SampleRule) (bytes : List ℕ) (are : AreBytes bytes) (stored :
           let r = ((row_took bytes are x.at x.store stored.long).0 t).upto next d in
           let m : (x.row + 1) * n ≡ x.row * n + n = rw (add-one, suc-mul) in
           (omega (arith, r, m, p.0), (on x next p.1 d).1))
-          (λ number o s h e. ends_refused)
+          (λ reason o s h e. ends_refused)
           (λ h. let m : stored.count * n ≤ x.row * n = mul-le-mul_right n h in ends_done (omega (arith, m, p.0)) p.1)
 
   coded_rows : is_flat_width stored.long ≡ false → Ends bytes (at + (stored.count * coded_least stored.long - 1)) (rows_of crate_row rule bytes stored at out store)
@@ -231,7 +233,7 @@ module _ (rule : SampleRule) (bytes : List ℕ) (are : AreBytes bytes) (stored :
           let o = on x next p.2 d in
           let m : (x.row + 1) * n ≡ x.row * n + n = rw (add-one, suc-mul) in
           (omega (arith, r.1, q), omega (arith, p.1, o.0), o.1, λ l. omega (arith, r.2 l, q)))
-          (λ number o s h e. ends_refused)
+          (λ reason o s h e. ends_refused)
           (λ h. let m : stored.count * n ≤ x.row * n = mul-le-mul_right n h in ends_done (omega (arith, m, p.0, p.1)) p.2)
 
   rows_took : Ends bytes (at + least_of stored.long stored.count) (rows_of crate_row rule bytes stored at out store)

@@ -9,10 +9,11 @@ use borrow.Author.Tests.{ltb-false, eqb-false, lt-ltb, le-ltb}
 use lib.Dec.{ltb}
 use lib.ListN.{length, get_or}
 use lib.Ieee.{Float}
+use Rattle.steps.specs.declared.refusal.Reason.TheVariants.{BrokenRow, BytesEnd}
 use Rattle.steps.specs.Answer.{Answer, done}
 use Rattle.steps.proofs.Laws.Taken.{never_both}
-use Rattle.steps.specs.declared.Taken.{Taken}
-use Rattle.steps.specs.declared.Taken.TheVariants.{Done}
+use Rattle.steps.specs.Answer.{Taken}
+use Rattle.std.specs.Prelude.{Ok}
 use Rattle.steps.specs.declared.Reading.TheVariants.{Document}
 use Rattle.steps.proofs.Laws.Order.{by_order}
 use Rattle.steps.proofs.Laws.Turns.{by_test, Leads, run_keeps}
@@ -64,7 +65,7 @@ module _ (src : List ℕ) (bytes : AreBytes src) (row width : ℕ) (w : 0 < widt
     pub two : g ≡ 2 → width ≤ x.wanted + 256
 
   abbrev Enough : Taken × List ℕ → Type 0
-  Enough a = (next : ℕ) → a.0 ≡ Done next → row + row_least width ≤ next
+  Enough a = (next : ℕ) → a.0 ≡ Ok next → row + row_least width ≤ next
 
   grown_pixel : (x : Flat) (s : List ℕ) → 0 < x.wanted → Grown x → Grown (flat (x.at + 4) (x.place + 4) (x.wanted - 1) 0 s)
   grown_pixel x s h p = record {
@@ -92,21 +93,21 @@ module _ (src : List ℕ) (bytes : AreBytes src) (row width : ℕ) (w : 0 < widt
   grown_ones : (x : Flat) → Grown x → Leads Grown Enough (document_ones src x)
   unfolding document_ones
   grown_ones x p =
-      by_test (Leads Grown Enough) (ltb x.place 4) (λ t next e. never_both next 14 (sym e))
-      (λ t. by_test (Leads Grown Enough) (ltb x.wanted (times_of src x)) (λ u next e. never_both next 14 (sym e))
+      by_test (Leads Grown Enough) (ltb x.place 4) (λ t next e. never_both next BrokenRow (sym e))
+      (λ t. by_test (Leads Grown Enough) (ltb x.wanted (times_of src x)) (λ u next e. never_both next BrokenRow (sym e))
       (λ u. grown_copies x _ (times_of src x) (ltb-false x.place 4 t) (ltb-false x.wanted (times_of src x) u)
       (λ z. rw z (omega (arith, bytes (x.at + 3)))) p))
 
   part_took : (at : ℕ) (store : List ℕ) (start wanted : ℕ) → Grown (flat at start wanted 0 store) → Enough (flat_of document_flat src at store start wanted)
   unfolding flat_of document_flat
-  part_took at store start wanted begun = run_keeps (flat_turn document_flat src) flat_out Grown Enough step (λ x p next e. never_both next 9 (sym e)) _ _ begun
+  part_took at store start wanted begun = run_keeps (flat_turn document_flat src) flat_out Grown Enough step (λ x p next e. never_both next BytesEnd (sym e)) _ _ begun
     where
       step : (x : Flat) → Grown x → Leads Grown Enough (flat_turn document_flat src x)
       step x p =
           flat_cases document_flat src x (Leads Grown Enough)
           (λ h l e. grown_ones x p)
           (λ h l e. grown_pixel x _ h p)
-          (λ h next e. never_both next 9 (sym e))
+          (λ h next e. never_both next BytesEnd (sym e))
           (λ h next e. let f : x.at ≡ next = cc in
           omega (arith, p.at, least_groups width p.g w (λ z. omega (arith, p.none z)) (λ z. omega (arith, (p.one z).0)) (λ z. omega (arith, p.two z))))
 
@@ -147,7 +148,7 @@ module _ (src : List ℕ) (at channel width : ℕ) where
   Passed x = (at ≤ x.at) × (0 < x.done → at + 2 ≤ x.at)
 
   abbrev Two : Taken × List ℕ → Type 0
-  Two a = (next : ℕ) → a.0 ≡ Done next → at + 2 ≤ next
+  Two a = (next : ℕ) → a.0 ≡ Ok next → at + 2 ≤ next
 
   passed_span : (x : Chan) (n : ℕ) → x.at < length src → document_count src x.at x.done width ≡ span n → Passed x → Passed (span_of src channel (get_or src x.at 0) n x)
   unfolding span_of
@@ -157,21 +158,21 @@ module _ (src : List ℕ) (at channel width : ℕ) where
 
   channel_took : (store : List ℕ) → 0 < width → Two (channel_of document_count src at store channel width)
   unfolding channel_of
-  channel_took store w = run_keeps (channel_turn document_count src channel width) channel_out Passed Two step (λ x p next e. never_both next 9 (sym e)) _ _ (omega arith, λ h. absurd (omega arith))
+  channel_took store w = run_keeps (channel_turn document_count src channel width) channel_out Passed Two step (λ x p next e. never_both next BytesEnd (sym e)) _ _ (omega arith, λ h. absurd (omega arith))
     where
       step : (x : Chan) → Passed x → Leads Passed Two (channel_turn document_count src channel width x)
       step x p =
           channel_cases document_count src channel width x (Leads Passed Two)
           (λ n d l f. passed_span x n l f p)
-          (λ number d l f next e. never_both next number (sym e))
-          (λ n d l f next e. never_both next 9 (sym e))
-          (λ d l next e. never_both next 9 (sym e))
+          (λ reason d l f next e. never_both next reason (sym e))
+          (λ n d l f next e. never_both next BytesEnd (sym e))
+          (λ d l next e. never_both next BytesEnd (sym e))
           (λ d next e. let f : x.at ≡ next = cc in omega (arith, p.1 (omega arith)))
 
-channels_took : (src : List ℕ) (at : ℕ) (store : List ℕ) (width next : ℕ) (s : List ℕ) → 0 < width → channels_of document_count src at store width ≡ (Done next, s) → at + 8 ≤ next
+channels_took : (src : List ℕ) (at : ℕ) (store : List ℕ) (width next : ℕ) (s : List ℕ) → 0 < width → channels_of document_count src at store width ≡ (Ok next, s) → at + 8 ≤ next
 channels_took src at store width next s w e =
     let four = apart document_count src at store width next s e in
-    let told : (a : Taken × List ℕ) (n : ℕ) (l : List ℕ) → a ≡ (Done n, l) → a.0 ≡ Done n = λ a n l k. ap (λ (z : Taken × List ℕ). z.0) k in
+    let told : (a : Taken × List ℕ) (n : ℕ) (l : List ℕ) → a ≡ (Ok n, l) → a.0 ≡ Ok n = λ a n l k. ap (λ (z : Taken × List ℕ). z.0) k in
     let one = channel_took src at 0 width store w four.green (told _ _ _ four.first) in
     let two = channel_took src four.green 1 width four.reds w four.blue (told _ _ _ four.second) in
     let three = channel_took src four.blue 2 width four.greens w four.exponent (told _ _ _ four.third) in
@@ -180,16 +181,16 @@ channels_took src at store width next s w e =
 
 -- ---- The row
 
-pub row_took : (src : List ℕ) → AreBytes src → (at : ℕ) (store : List ℕ) (width : ℕ) → 0 < width → (next : ℕ) → (document_row src at store width).0 ≡ Done next → at + row_least width ≤ next
+pub row_took : (src : List ℕ) → AreBytes src → (at : ℕ) (store : List ℕ) (width : ℕ) → 0 < width → (next : ℕ) → (document_row src at store width).0 ≡ Ok next → at + row_least width ≤ next
 unfolding row_of row_by parts_of
 row_took src bytes at store width w =
     by_test (Enough src bytes at width w) (is_flat_width width) (λ t. flat_took src bytes at width w store)
     (λ t. kind_cases src at (λ z. Enough src bytes at width w (rest_by (parts_of Document) src at width z s))
-    (λ next e. never_both next 9 (sym e))
+    (λ next e. never_both next BytesEnd (sym e))
     (λ h f. flat_took src bytes at width w s)
     (λ h f m. by_test (Enough src bytes at width w) ((parts_of Document).mark src at width)
     (λ u next e. omega (arith, least_most width, channels_took src (at + 4) s width next _ w (λ i. (e i, (channels_of document_count src (at + 4) s width).1))))
-    (λ u next e. never_both next 14 (sym e)))
+    (λ u next e. never_both next BrokenRow (sym e)))
     (λ h f m. pixel_took src bytes at width w s))
   where
     s : List ℕ
@@ -198,7 +199,7 @@ row_took src bytes at store width w =
 -- ---- The file
 
 rows_took : (bytes : List ℕ) → AreBytes bytes → (long at : ℕ) (store : List ℕ) → 0 < long → (n : ℕ)
-    → ((k : ℕ) → k < n → (row_at document_row bytes long at store k).0 ≡ Done (before document_row bytes long at store (k + 1)).0)
+    → ((k : ℕ) → k < n → (row_at document_row bytes long at store k).0 ≡ Ok (before document_row bytes long at store (k + 1)).0)
     → at + n * row_least long ≤ (before document_row bytes long at store n).0
 unfolding before
 rows_took bytes are long at store w zero read = omega arith

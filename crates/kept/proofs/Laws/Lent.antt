@@ -15,8 +15,8 @@ use Rattle.steps.proofs.Laws.Order.{lt_or_ge}
 use Rattle.steps.specs.Place.{spread}
 use Rattle.steps.specs.Answer.{Answer, done, refused, refuse, Check, check, checked}
 use Rattle.steps.specs.Numbered.{FirstFails}
-use Rattle.steps.specs.declared.Taken.{Taken}
-use Rattle.steps.specs.declared.Taken.TheVariants.{Done, Fault}
+use Rattle.steps.specs.Answer.{Taken}
+use Rattle.std.specs.Prelude.{Ok, Err}
 use Rattle.steps.proofs.Laws.Answer.{Passed, pass, differ}
 use Rattle.steps.proofs.Laws.Loop.{Runs}
 use Rattle.steps.proofs.Laws.Place.{length_spread}
@@ -187,7 +187,7 @@ module _ (row_rule : RowRule) (rule : SampleRule) (bytes : List ℕ) (stored : S
   row_is : (k p : ℕ) (s : List ℕ) → (p, s) ≡ start k → row_rule bytes p s stored.long ≡ row k
   row_is k p s e = ap (λ (z : ℕ × List ℕ). row_rule bytes z.0 z.1 stored.long) e
 
-  start_next : (k next : ℕ) (s : List ℕ) → (Done next, s) ≡ row k → (next, s) ≡ start (k + 1)
+  start_next : (k next : ℕ) (s : List ℕ) → (Ok next, s) ≡ row k → (next, s) ≡ start (k + 1)
   unfolding before
   start_next k next s e = rw add-one (ap (λ (z : Taken × List ℕ). (onward z.0 (start k).0, z.1)) e)
 
@@ -198,16 +198,16 @@ module _ (row_rule : RowRule) (rule : SampleRule) (bytes : List ℕ) (stored : S
     stood_none : Stands 0 lent
     stood_none = record { read = λ k h. absurd (omega arith); stand = stand_none rule stored apart (λ k. (row k).1) lent inside }
 
-    stood_more : (n next : ℕ) (out out' : List Float) (s : List ℕ) → n < stored.count → Stands n out → (Done next, s) ≡ row n → out' ≡ placed rule (stored.place n) s 0 stored.long out
+    stood_more : (n next : ℕ) (out out' : List Float) (s : List ℕ) → n < stored.count → Stands n out → (Ok next, s) ≡ row n → out' ≡ placed rule (stored.place n) s 0 stored.long out
         → Stands (n + 1) out'
     stood_more n next out out' s more stood e eo = record {
-      read = λ k h. ⊎_elim (λ old. stood.read k old) (λ this. let same : n ≡ k = omega arith in subst (λ (m : ℕ). (row m).0 ≡ Done (start (m + 1)).0) same this_read) (lt_or_ge k n);
+      read = λ k h. ⊎_elim (λ old. stood.read k old) (λ this. let same : n ≡ k = omega arith in subst (λ (m : ℕ). (row m).0 ≡ Ok (start (m + 1)).0) same this_read) (lt_or_ge k n);
       stand = stand_more rule stored apart (λ k. (row k).1) lent inside n out out' more stood.stand
           (eo ∙ ap (λ (l : List ℕ). placed rule (stored.place n) l 0 stored.long out) (ap (λ (z : Taken × List ℕ). z.1) e));
     }
       where
-        this_read : (row n).0 ≡ Done (start (n + 1)).0
-        this_read = sym (ap (λ (z : Taken × List ℕ). z.0) e) ∙ ap (λ (z : ℕ × List ℕ). Done z.0) (start_next n next s e)
+        this_read : (row n).0 ≡ Ok (start (n + 1)).0
+        this_read = sym (ap (λ (z : Taken × List ℕ). z.0) e) ∙ ap (λ (z : ℕ × List ℕ). Ok z.0) (start_next n next s e)
 
     abbrev Right : Left → Type 0
     Right z = RowsLeft row_rule rule bytes stored at lent store z.0 z.1 z.2
@@ -231,15 +231,15 @@ module _ (row_rule : RowRule) (rule : SampleRule) (bytes : List ℕ) (stored : S
             → Runs (row_turn row_rule rule bytes stored) no_rows (stored.count - (k + 1)) (rows next (k + 1) s' o) a → Right a
 
         by : Later → (t : Taken) (o : List Float) (s' : List ℕ) → (t, o, s') ≡ step_of row_rule rule stored.long (stored.place k) bytes p out s → Right a
-        by later (Done next) o s' e =
+        by later (Ok next) o s' e =
             let went = went_on row_rule rule stored.long (stored.place k) bytes p out o s s' next e in
             let this = went.0 ∙ row_is k p s is in
             later next s' o (start_next k next s' this) (stood_more k next out o s' more stood this went.1)
-            (rows_again row_rule rule bytes stored p k s out a r more (Done next) o s' e next refl)
-        by later (Fault number) o s' e =
-            let fell = faulted row_rule rule stored.long (stored.place k) bytes p out o s s' number e in
-            subst Right (rows_fault row_rule rule bytes stored p k s out a r more (Fault number) o s' e number refl)
-            (more, subst (Stands k) (sym fell.1) stood, fell.0 ∙ row_is k p s is)
+            (rows_again row_rule rule bytes stored p k s out a r more (Ok next) o s' e next refl)
+        by later (Err reason) o s' e =
+            let fell = faulted row_rule rule stored.long (stored.place k) bytes p out o s s' reason e in
+            subst Right (rows_fault row_rule rule bytes stored p k s out a r more (Err reason) o s' e reason refl)
+            (more, subst (Stands k) (sym fell.1) stood, (reason, refl, fell.0 ∙ row_is k p s is))
 
     pub rows_left : Right (rows_of row_rule rule bytes stored at lent store)
     unfolding before
@@ -258,7 +258,7 @@ module _ (row_rule : RowRule) (rule : SampleRule) (bytes : List ℕ) (stored : S
 
     pub rows_kept : (lent : List Float) (answer : Answer ℕ) (out : List Float) (s : List ℕ) → RowsLeft row_rule rule bytes stored at lent store answer out s → Kept (4 * stored.long) store s
     rows_kept lent (done next) out s left = subst (Kept (4 * stored.long) store) (sym (ap (λ (z : ℕ × List ℕ). z.1) left.1)) (start_kept stored.count)
-    rows_kept lent (refused number k) out s left = subst (Kept (4 * stored.long) store) (sym (ap (λ (z : Taken × List ℕ). z.1) left.2)) (row_kept k)
+    rows_kept lent (refused number k) out s left = subst (Kept (4 * stored.long) store) (sym (ap (λ (z : Taken × List ℕ). z.1) left.2.2)) (row_kept k)
 
 pub cleared_kept : (long : ℕ) (store : List ℕ) → Kept (4 * long) store (cleared long store)
 cleared_kept long store = kept_spread (4 * long) 1 store 0 (replicate (4 * long) 0) (omega (arith, length-replicate {A = ℕ} (4 * long) 0))

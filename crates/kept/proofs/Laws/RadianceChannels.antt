@@ -10,12 +10,13 @@ use borrow.Author.Tests.{lt-ltb, eqb-true}
 use lib.Dec.{eqb}
 use lib.ListN.{length, get_or, drop}
 use lib.Seq.{drop-cons}
+use Rattle.steps.specs.declared.refusal.Reason.TheVariants.{BrokenRow}
 use Rattle.steps.specs.Loop.{Turns, more}
 use Rattle.steps.specs.Width.{is_coded}
 use Rattle.steps.proofs.Laws.Taken.{fault_done}
 use Rattle.steps.proofs.Laws.Turns.{and_left}
-use Rattle.steps.specs.declared.Taken.{Taken}
-use Rattle.steps.specs.declared.Taken.TheVariants.{Done}
+use Rattle.steps.specs.Answer.{Taken}
+use Rattle.std.specs.Prelude.{Ok}
 use Rattle.steps.specs.declared.Reading.TheVariants.{Document}
 use Rattle.pixel.specs.declared.Rgbe.{Rgbe}
 use Rattle.channels_read.specs.Channel.{chan, document_count, channel_of}
@@ -62,7 +63,7 @@ module _ (src : List ℕ) (at : ℕ) (store : List ℕ) (w : ℕ) (is-coded : is
   abbrev Reached : ℕ → ℕ → List ℕ → Type 0
   Reached k p before = Turns (chans_turn document_count src w) k (chans (at + 4) 0 store) (chans p k before)
 
-  channel_done : (p k : ℕ) (before : List ℕ) (n : ℕ) (after : List ℕ) → k < 4 → channel_of document_count src p before k w ≡ (Done n, after)
+  channel_done : (p k : ℕ) (before : List ℕ) (n : ℕ) (after : List ℕ) → k < 4 → channel_of document_count src p before k w ≡ (Ok n, after)
       → chans_turn document_count src w (chans p k before) ≡ more (chans n (k + 1) after)
   unfolding chans_turn
   channel_done p k before n after h e = simp (lt-ltb k 4 h) (ap (λ (z : Taken × List ℕ). after_channel k z.0 z.1) e)
@@ -100,7 +101,7 @@ module _ (src : List ℕ) (at : ℕ) (store : List ℕ) (w : ℕ) (is-coded : is
 
   -- ---- The row
 
-  pub coded_or : AreBytes src → (next : ℕ) (s : List ℕ) → document_row src at store w ≡ (Done next, s) → ZeroRow src at store w ⊎ ((qs : List Rgbe) × (coded w (drop at src) ≡ some (qs, drop next src)))
+  pub coded_or : AreBytes src → (next : ℕ) (s : List ℕ) → document_row src at store w ≡ (Ok next, s) → ZeroRow src at store w ⊎ ((qs : List Rgbe) × (coded w (drop at src) ≡ some (qs, drop next src)))
   unfolding is_flat_width is_coded coded
   coded_or bytes next s e = go (document_mark src at w) refl
     where
@@ -111,7 +112,7 @@ module _ (src : List ℕ) (at : ℕ) (store : List ℕ) (w : ℕ) (is-coded : is
       wide = simp is-coded
 
       go : (b : Bool) → document_mark src at w ≡ b → ZeroRow src at store w ⊎ ((qs : List Rgbe) × (coded w (drop at src) ≡ some (qs, drop next src)))
-      go false t = fault_done 14 next store s (row_marked Document src at store w false wide refl _ store marked (marked_whole src at store marked) _ (at + 4) refl (marked_wrong Document src at (at + 4) store w false (sym t) refl) ∙ e)
+      go false t = fault_done BrokenRow next store s (row_marked Document src at store w false wide refl _ store marked (marked_whole src at store marked) _ (at + 4) refl (marked_wrong Document src at (at + 4) store w false (sym t) refl) ∙ e)
       go true t =
           let row = row_marked Document src at store w false wide refl _ store marked (marked_whole src at store marked) _ (at + 4) refl (marked_right Document src at (at + 4) store w true (sym t) _ refl refl) in
           ⊎_elim inl

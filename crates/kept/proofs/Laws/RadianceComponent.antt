@@ -10,7 +10,7 @@ use lib.Dec.{ltb, leb}
 use lib.ListN.{length, take, drop, replicate, length-append, length-replicate, length-take, take-append-drop}
 use Rattle.steps.specs.Loop.{pick}
 use Rattle.steps.proofs.Laws.Turns.{and_left, and_right, by_test}
-use Rattle.steps.specs.declared.Taken.{Taken}
+use Rattle.steps.specs.Answer.{Taken}
 use Rattle.channels_read.specs.Channel.{CountRule}
 use Rattle.channels_read.proofs.Laws.Channel.{TakesWhole}
 use Rattle.back.proofs.Laws.Channel.{Reads, reads_none, reads_both, reads_run, reads_packet, ReadAs, read_as}

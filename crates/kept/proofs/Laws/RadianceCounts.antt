@@ -10,12 +10,13 @@ use borrow.Author.Tests.{lt-ltb, le-ltb, le-leb, ltb-false}
 use lib.Dec.{ltb}
 use lib.ListN.{length, get_or, take, drop, replicate, length-take, length-drop, length-replicate}
 use lib.Seq.{drop-cons, drop-drop}
+use Rattle.steps.specs.declared.refusal.Reason.TheVariants.{BytesEnd}
 use Rattle.steps.specs.Loop.{Turns, Turn, more, run, lead}
 use Rattle.steps.proofs.Laws.Order.{by_order}
 use Rattle.steps.proofs.Laws.Taken.{fault_done}
 use Rattle.steps.proofs.Laws.Turns.{by_test}
-use Rattle.steps.specs.declared.Taken.{Taken}
-use Rattle.steps.specs.declared.Taken.TheVariants.{Done}
+use Rattle.steps.specs.Answer.{Taken}
+use Rattle.std.specs.Prelude.{Ok}
 use Rattle.channels_read.specs.Channel as read
 use Rattle.channels_read.specs.Channel.{Chan, chan, Count, document_count, is_run, span_length, span_taken, span_of, channel_turn, channel_out, channel_of}
 use Rattle.channels_read.proofs.Laws.Channel.{length_run, length_literals, taken_run, taken_literals, channel_cases}
@@ -109,24 +110,24 @@ module _ (src : List ℕ) (channel width : ℕ) where
       (ys ++ xs, rw (wide, front) (spans_step j j c (drop (x.at + 1) src) (ys, drop (x.at + 1 + span_taken c m) src) (xs, drop next src) is (omega arith) rest))
 
   -- from x on
-  channel_or : (k : ℕ) (x : Chan) (next : ℕ) (s : List ℕ) → x.done ≤ width → run (channel_turn document_count src channel width) channel_out k x ≡ (Done next, s) → Zero x ⊎ Rest x next
+  channel_or : (k : ℕ) (x : Chan) (next : ℕ) (s : List ℕ) → x.done ≤ width → run (channel_turn document_count src channel width) channel_out k x ≡ (Ok next, s) → Zero x ⊎ Rest x next
   unfolding run spans span_of
-  channel_or zero x next s h e = fault_done 9 next _ s e
+  channel_or zero x next s h e = fault_done BytesEnd next _ s e
   channel_or (suc k) x next s h e =
-      channel_cases document_count src channel width x (λ (z : Turn Chan (Taken × List ℕ)). channel_turn document_count src channel width x ≡ z → lead (run (channel_turn document_count src channel width) channel_out k) z ≡ (Done next, s) → Zero x ⊎ Rest x next)
+      channel_cases document_count src channel width x (λ (z : Turn Chan (Taken × List ℕ)). channel_turn document_count src channel width x ≡ z → lead (run (channel_turn document_count src channel width) channel_out k) z ≡ (Ok next, s) → Zero x ⊎ Rest x next)
       (λ m d l f et r. by_order 0 (get_or src x.at 0)
       (λ c. spans_or m d l f et c (channel_or k _ next s (within m d l f) r))
       (λ c. inl (0, x, refl, record { wants = d; there = l; zero = omega arith })))
-      (λ number d l f et r. fault_done number next _ s r)
-      (λ m d l f et r. fault_done 9 next _ s r)
-      (λ d l et r. fault_done 9 next _ s r)
+      (λ reason d l f et r. fault_done reason next _ s r)
+      (λ m d l f et r. fault_done BytesEnd next _ s r)
+      (λ d l et r. fault_done BytesEnd next _ s r)
       (λ d et r. inr ([], ended d (ap here r)))
       refl e
     where
       here : Taken × List ℕ → Taken
       here z = z.0
 
-      ended : width ≤ x.done → Done x.at ≡ Done next → spans (width - x.done) (width - x.done) (drop x.at src) ≡ some ([], drop next src)
+      ended : width ≤ x.done → ◌≡◌ {A = Taken} (Ok x.at) (Ok next) → spans (width - x.done) (width - x.done) (drop x.at src) ≡ some ([], drop next src)
       ended d e =
           let none : width - x.done ≡ 0 = omega arith in
           let place : x.at ≡ next = cc in
@@ -141,7 +142,7 @@ module _ (src : List ℕ) (channel width : ℕ) where
       spans_or m d l f et c (inr rest) = inr (rest_before x m next d l f c rest)
 
 -- the whole channel
-pub component_or : (src : List ℕ) (at : ℕ) (store : List ℕ) (channel width next : ℕ) (s : List ℕ) → channel_of document_count src at store channel width ≡ (Done next, s)
+pub component_or : (src : List ℕ) (at : ℕ) (store : List ℕ) (channel width next : ℕ) (s : List ℕ) → channel_of document_count src at store channel width ≡ (Ok next, s)
     → Zero src channel width (chan at 0 store) ⊎ ((xs : List ℕ) × (component width (drop at src) ≡ some (xs, drop next src)))
 unfolding channel_of
 component_or src at store channel width next s e =

@@ -12,7 +12,7 @@ use lib.ListN.{length, get_or, drop, set}
 use Rattle.steps.specs.Place.{bytes_from, spread}
 use Rattle.steps.proofs.Laws.Place.{drop_next}
 use Rattle.pixel.specs.declared.Rgbe.{Rgbe}
-use Rattle.steps.specs.declared.Taken.TheVariants.{Done}
+use Rattle.std.specs.Prelude.{Ok}
 use Rattle.flat_read.specs.Flat.{FlatRule, is_repeat, crate_flat, flat_of}
 use Rattle.steps.proofs.Laws.Width.{width_narrow, width_wide}
 use Rattle.steps.specs.declared.Reading.TheVariants.{Crate}
@@ -71,11 +71,11 @@ no_repeat (q ∷ qs) none (suc i) h = repeat_behind q.r q.g q.b q.e (flat_bytes 
 
 -- where such pixels stand, a flat part takes just them, by any rule
 part_there : (rule : FlatRule) (src : List ℕ) (at : ℕ) (store : List ℕ) (start : ℕ) (qs : List Rgbe) (rest : List ℕ) → NoOldRun qs → drop at src ≡ flat_bytes qs ++ rest
-    → (Done (at + 4 * length qs), spread 1 store start (flat_bytes qs)) ≡ flat_of rule src at store start (length qs)
+    → (Ok (at + 4 * length qs), spread 1 store start (flat_bytes qs)) ≡ flat_of rule src at store start (length qs)
 part_there rule src at store start qs rest none e =
     let n : ℕ = length qs in
     let all : bytes_from (flat_bytes qs) 0 (4 * n) ≡ flat_bytes qs = all_bytes (flat_bytes qs) (4 * n) (length_flat qs) in
-    ap (λ (l : List ℕ). (Done (at + 4 * n), spread 1 store start l)) (sym all)
+    ap (λ (l : List ℕ). (Ok (at + 4 * n), spread 1 store start l)) (sym all)
     ∙ flat_there rule (flat_bytes qs) src 0 n at start store rest _ (e ∙ ap (λ (l : List ℕ). l ++ rest) (sym all)) (no_repeat qs none) (flat_starts rule src at store start n)
 
 -- both read the pixels qs, and rest follows
@@ -107,10 +107,10 @@ flat_width w = ⊎_elim (λ h. simp (width_narrow w h)) (λ h. simp (width_wide 
 
 module _ (src : List ℕ) (at : ℕ) (store rest : List ℕ) where
   both : (qs : List Rgbe) → NoOldRun qs → drop at src ≡ flat_bytes qs ++ rest
-      → (Done (at + 4 * length qs), spread 1 store 0 (flat_bytes qs)) ≡ crate_row src at store (length qs) → BothRead src at store qs rest
+      → (Ok (at + 4 * length qs), spread 1 store 0 (flat_bytes qs)) ≡ crate_row src at store (length qs) → BothRead src at store qs rest
   both qs none e row = (
     ap (flat (length qs)) e ∙ flat_found qs rest none,
-    (flat_bytes qs, e, length_flat qs, sym row ∙ ap (λ (i : ℕ). (Done (at + i), spread 1 store 0 (flat_bytes qs))) (sym (length_flat qs))),
+    (flat_bytes qs, e, length_flat qs, sym row ∙ ap (λ (i : ℕ). (Ok (at + i), spread 1 store 0 (flat_bytes qs))) (sym (length_flat qs))),
   )
 
   -- widths 1 to 7 and over 32,767
@@ -152,8 +152,8 @@ module _ (src : List ℕ) (at : ℕ) (store rest : List ℕ) where
         let place : at + 4 - 4 ≡ at = omega arith in
         let last : at + 4 - 1 ≡ at + 3 = omega arith in
         let starts : first ≡ crate_start src at store = rw (place, last, m0.1 ∙ is) at start in
-        let part : (Done (at + 4 + 4 * n), spread 1 first 4 (flat_bytes qs)) ≡ flat_of crate_flat src (at + 4) first 4 (w - 1) = rw left (part_there crate_flat src (at + 4) first 4 qs rest none.1 (rw four at m3.2)) in
+        let part : (Ok (at + 4 + 4 * n), spread 1 first 4 (flat_bytes qs)) ≡ flat_of crate_flat src (at + 4) first 4 (w - 1) = rw left (part_there crate_flat src (at + 4) first 4 qs rest none.1 (rw four at m3.2)) in
         let row = row_pixel Crate src at store w false (coded_width w wide short) refl _ first kind starts _ (at + 4) refl part in
         let stored : spread 1 store 0 (flat_bytes (q ∷ qs)) ≡ spread 1 first 4 (flat_bytes qs) = rw (m1.1, third, fourth, is) (pixel_stored store 2 q.g q.b q.e (flat_bytes qs)) in
         let ends : at + 4 * w ≡ at + 4 + 4 * n = omega arith in
-        both (q ∷ qs) none e (ap (λ (i : ℕ). (Done i, spread 1 store 0 (flat_bytes (q ∷ qs)))) ends ∙ ap (λ (l : List ℕ). (Done (at + 4 + 4 * n), l)) stored ∙ row)
+        both (q ∷ qs) none e (ap (λ (i : ℕ). (Ok i, spread 1 store 0 (flat_bytes (q ∷ qs)))) ends ∙ ap (λ (l : List ℕ). (Ok (at + 4 + 4 * n), l)) stored ∙ row)

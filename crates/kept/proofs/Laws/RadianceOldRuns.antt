@@ -15,13 +15,15 @@ use Rattle.steps.specs.Place.{bytes_from, spread}
 use Rattle.steps.proofs.Laws.Loop.{Runs, runs_more, runs_halt}
 use Rattle.steps.proofs.Laws.Order.{by_order}
 use Rattle.steps.proofs.Laws.Place.{length_spread, spread_append, drop_past, bytes_there, get_or_bytes}
-use Rattle.steps.specs.declared.Taken.{Taken}
-use Rattle.steps.specs.declared.Taken.TheVariants.{Done, Fault}
+use Rattle.steps.specs.Answer.{Taken}
+use Rattle.std.specs.Prelude.{Ok, Err}
+use Rattle.steps.specs.declared.refusal.Reason.{Reason}
+use Rattle.steps.specs.declared.refusal.Reason.TheVariants.{BrokenRow, BytesEnd}
 use Rattle.pixel.specs.declared.Rgbe.{Rgbe}
 use Rattle.flat_read.specs.Flat.{is_repeat, document_ones, document_flat, copies_to, flat_turn, flat_out}
 use Rattle.flat_read.specs.Flat as read
 use Rattle.flat_read.proofs.Laws.Flat.{four_there, flat_starts, flat_done, flat_missing, flat_ordinary}
-use Rattle.flat_read.proofs.Laws.Document.{ones_first, document_ones_lem}
+use Rattle.flat_read.proofs.Laws.Pixels.{ones_first, pixel_ones}
 use Rattle.kept.specs.Radiance.{rgbe, Found, after, is_old_run, Meaning, meaning, onward, ended, flat_from, flat, flat_bytes}
 use Rattle.kept.proofs.Laws.RadianceFlat.{length_flat, itself}
 
@@ -78,9 +80,9 @@ copied (suc n) s i q h b =
 -- The document has nothing from a place on, and the row is at fault; or it has so many pixels, which are in the store from a place on, and just their
 -- bytes are taken.
 abbrev pub Both : List ℕ → ℕ → List ℕ → ℕ → ℕ → Found (List Rgbe) → Taken × List ℕ → Type 0
-Both src at store place wanted none a = (number : ℕ) × (s : List ℕ) × (a ≡ (Fault number, s))
+Both src at store place wanted none a = (reason : Reason) × (s : List ℕ) × (a ≡ (Err reason, s))
 Both src at store place wanted (some z) a =
-    (front : List ℕ) × (drop at src ≡ front ++ z.1) × (length z.0 ≡ wanted) × (a ≡ (Done (at + length front), spread 1 store place (flat_bytes z.0)))
+    (front : List ℕ) × (drop at src ≡ front ++ z.1) × (length z.0 ≡ wanted) × (a ≡ (Ok (at + length front), spread 1 store place (flat_bytes z.0)))
 
 -- a stored pixel that stands for the pixels ps, and then what both have
 both_after : (src : List ℕ) (at : ℕ) (store : List ℕ) (place wanted : ℕ) (a : Taken × List ℕ) (q : Rgbe) (bytes : List ℕ) (ps : List Rgbe) (z : Found (List Rgbe)) → drop at src ≡ four q ++ bytes → drop (at + 4) src ≡ bytes → length ps ≤ wanted
@@ -116,10 +118,10 @@ module _ (src : List ℕ) (a : Taken × List ℕ) where
   unfolding spread
   both_ended bytes at place zero repeats store e h r =
       let here : at ≡ at + 0 = omega arith in
-      ([], e, refl, sym (flat_done document_flat src at place 0 repeats store a r (omega arith)) ∙ ap (λ (i : ℕ). (Done i, store)) here)
+      ([], e, refl, sym (flat_done document_flat src at place 0 repeats store a r (omega arith)) ∙ ap (λ (i : ℕ). (Ok i, store)) here)
   both_ended bytes at place (suc n) repeats store e h r =
       let few = h (omega arith) in
-      (9, _, sym (flat_missing document_flat src at place (suc n) repeats store a r (omega arith) (omega (arith, ap length e, length-drop at src))))
+      (BytesEnd, _, sym (flat_missing document_flat src at place (suc n) repeats store a r (omega arith) (omega (arith, ap length e, length-drop at src))))
 
   -- a pixel of which all four bytes are there
   module _ (q : Rgbe) (bytes : List ℕ) (at : ℕ) (e : drop at src ≡ four q ++ bytes) where
@@ -156,11 +158,12 @@ module _ (src : List ℕ) (a : Taken × List ℕ) where
 
       -- what the document reading does with a 1,1,1,n
       turn : is_old_run q ≡ true → document_ones src (read.flat at place (suc n) repeats store) ≡ flat_turn document_flat src (read.flat at place (suc n) repeats store)
-      turn t = document_ones_lem src at place (suc n) repeats store (omega arith) room true (sym (old_run ∙ t)) _ refl refl
+      unfolding document_flat
+      turn t = pixel_ones document_flat src at place (suc n) repeats store (omega arith) room true (sym (old_run ∙ t)) _ refl refl
 
       both_first : is_old_run q ≡ true → place < 4 → Both src at store place (suc n) (onward (meaning none weight q) (suc n) (flat_from bytes)) a
-      unfolding meaning
-      both_first t h = simp t (14, store, sym (runs_halt r (sym (turn t) ∙ sym (ones_first src at place (suc n) repeats store h))))
+      unfolding meaning document_flat
+      both_first t h = simp t (BrokenRow, store, sym (runs_halt r (sym (turn t) ∙ sym (ones_first src at place (suc n) repeats store h))))
 
       module _ (p : Rgbe) (t : is_old_run q ≡ true) (ew : weight ≡ 256 ^ repeats) (before : Before store place (some p)) where
         abbrev ps : List Rgbe
@@ -176,7 +179,7 @@ module _ (src : List ℕ) (a : Taken × List ℕ) where
         times : read.times_of src (read.flat at place (suc n) repeats store) ≡ length ps
         times = rw (byte 3 (omega arith), ← ew) (sym (length-replicate (q.e * weight) p))
 
-        past_end : suc n < length ps → document_ones src (read.flat at place (suc n) repeats store) ≡ halt (Fault 14, store)
+        past_end : suc n < length ps → document_ones src (read.flat at place (suc n) repeats store) ≡ halt (Err BrokenRow, store)
         unfolding document_ones
         past_end h = rw times (simp (le-ltb place 4 before.0, lt-ltb (suc n) (length ps) h))
 
@@ -190,7 +193,7 @@ module _ (src : List ℕ) (a : Taken × List ℕ) where
         both_copies = subst (λ (z : Found (List Rgbe)). Both src at store place (suc n) z a) (sym means_copies) (by_order (suc n) (length ps) past fits)
           where
             past : suc n < length ps → Both src at store place (suc n) (pick (leb (length ps) (suc n)) (after ps others) none) a
-            past h = simp (lt-leb (length ps) (suc n) h) (14, store, sym (runs_halt r (sym (turn t) ∙ past_end h)))
+            past h = simp (lt-leb (length ps) (suc n) h) (BrokenRow, store, sym (runs_halt r (sym (turn t) ∙ past_end h)))
 
             fits : length ps ≤ suc n → Both src at store place (suc n) (pick (leb (length ps) (suc n)) (after ps others) none) a
             fits h =

@@ -13,8 +13,8 @@ use Rattle.steps.specs.Width.{is_coded}
 use Rattle.steps.proofs.Laws.Place.{drop_past}
 use Rattle.steps.proofs.Laws.Taken.{fault_done}
 use Rattle.steps.proofs.Laws.Turns.{and_left, and_right}
-use Rattle.steps.specs.declared.Taken.{Taken}
-use Rattle.steps.specs.declared.Taken.TheVariants.{Done}
+use Rattle.steps.specs.Answer.{Taken}
+use Rattle.std.specs.Prelude.{Ok}
 use Rattle.steps.specs.declared.Reading.TheVariants.{Document}
 use Rattle.pixel.specs.declared.Rgbe.{Rgbe}
 use Rattle.flat_read.specs.Flat.{document_flat, flat_of}
@@ -64,13 +64,13 @@ abbrev pub Explained : List ℕ → ℕ → List ℕ → ℕ → ℕ → List �
 Explained src at store w next s =
     (qs : List Rgbe) × (scanline w (drop at src) ≡ some (qs, drop next src)) × (length qs ≡ w) × (s ≡ spread 1 store 0 (flat_bytes qs))
 
-module _ (src : List ℕ) (at : ℕ) (store : List ℕ) (w : ℕ) (room : 4 * w ≤ length store) (next : ℕ) (s : List ℕ) (e : document_row src at store w ≡ (Done next, s)) where
+module _ (src : List ℕ) (at : ℕ) (store : List ℕ) (w : ℕ) (room : 4 * w ≤ length store) (next : ℕ) (s : List ℕ) (e : document_row src at store w ≡ (Ok next, s)) where
   -- a scanline that is there is the one that was read
   explained : (r : List Rgbe × List ℕ) → scanline w (drop at src) ≡ some r → Explained src at store w next s
   explained (qs, rest) found =
       let (front, there, size, row) = document_reads src at store w room (qs, rest) found in
-      let same : ◌≡◌ {A = Taken × List ℕ} (Done next, s) (Done (at + length front), spread 1 store 0 (flat_bytes qs)) = sym e ∙ row in
-      let took : Done next ≡ Done (at + length front) = ap (λ (z : Taken × List ℕ). z.0) same in
+      let same : ◌≡◌ {A = Taken × List ℕ} (Ok next, s) (Ok (at + length front), spread 1 store 0 (flat_bytes qs)) = sym e ∙ row in
+      let took : Ok next ≡ Ok (at + length front) = ap (λ (z : Taken × List ℕ). z.0) same in
       let ends : next ≡ at + length front = cc in
       let stored : s ≡ spread 1 store 0 (flat_bytes qs) = ap (λ (z : Taken × List ℕ). z.1) same in
       let behind : rest ≡ drop next src = sym (drop_past src at front rest there) ∙ ap (λ (i : ℕ). drop i src) (sym ends) in

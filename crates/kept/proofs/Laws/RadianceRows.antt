@@ -13,7 +13,7 @@ use Rattle.steps.specs.Place.{bytes_from, spread}
 use Rattle.steps.proofs.Laws.Place.{bytes_there}
 use Rattle.steps.proofs.Laws.Turns.{and_left, and_right}
 use Rattle.pixel.specs.declared.Rgbe.{Rgbe}
-use Rattle.steps.specs.declared.Taken.TheVariants.{Done}
+use Rattle.std.specs.Prelude.{Ok}
 use Rattle.steps.specs.declared.Reading.{Reading}
 use Rattle.rows_read.specs.Row.{RowRule, RowParts, row_by, parts_of, row_of}
 use Rattle.channels_written.specs.Channel.{channel}
@@ -26,7 +26,7 @@ use Rattle.kept.proofs.Laws.RadianceComponent.{found_then, found_if, component_r
 -- which is as it was
 abbrev pub RowReads : RowRule → List ℕ → ℕ → List ℕ → ℕ → List Rgbe → List ℕ → Type 0
 RowReads row_rule src at store w qs rest =
-    (front : List ℕ) × (drop at src ≡ front ++ rest) × (length (flat_bytes qs) ≡ 4 * w) × (row_rule src at store w ≡ (Done (at + length front), spread 1 store 0 (flat_bytes qs)))
+    (front : List ℕ) × (drop at src ≡ front ++ rest) × (length (flat_bytes qs) ≡ 4 * w) × (row_rule src at store w ≡ (Ok (at + length front), spread 1 store 0 (flat_bytes qs)))
 
 -- ---- Pixels and their bytes
 
@@ -93,7 +93,7 @@ module _ (parts : RowParts) (fit : Fit parts) where
         e ∙ simp append_assoc,
         is.4,
         sym (marked_there parts fit w src px 0 c0 c1 c2 c3 four at store rest l h e)
-            ∙ ap (λ (l : List ℕ). (Done (at + length (mark w ++ (c0 ++ (c1 ++ (c2 ++ c3))))), spread 1 store 0 l)) (all_bytes px (4 * w) is.4),
+            ∙ ap (λ (l : List ℕ). (Ok (at + length (mark w ++ (c0 ++ (c1 ++ (c2 ++ c3))))), spread 1 store 0 l)) (all_bytes px (4 * w) is.4),
       )
 
   pub coded_read_by : (src : List ℕ) (at : ℕ) (store : List ℕ) (w : ℕ) (r : List Rgbe × List ℕ) → coded w (drop at src) ≡ some r → RowReads (row_by parts) src at store w r.0 r.1

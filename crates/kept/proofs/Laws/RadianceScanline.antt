@@ -12,7 +12,8 @@ use Rattle.steps.specs.Place.{bytes_from, spread}
 use Rattle.steps.proofs.Laws.Order.{by_order}
 use Rattle.steps.proofs.Laws.Place.{drop_next}
 use Rattle.steps.proofs.Laws.Turns.{and_left, and_right, enough_turns}
-use Rattle.steps.specs.declared.Taken.TheVariants.{Fault}
+use Rattle.std.specs.Prelude.{Err}
+use Rattle.steps.specs.declared.refusal.Reason.TheVariants.{BytesEnd}
 use Rattle.steps.specs.declared.Reading.TheVariants.{Document}
 use Rattle.flat_read.specs.Flat.{Flat, flat, document_flat, flat_of, flat_out, flat_turn}
 use Rattle.flat_read.proofs.Laws.Flat.{repeat_not_0, four_there, flat_starts, flat_missing, flat_ordinary, flat_falls, document_onward}
@@ -75,7 +76,7 @@ module _ (src : List ℕ) (at : ℕ) where
 -- ---- The flat part of a row that is not one
 
 module _ (src : List ℕ) (at : ℕ) (store : List ℕ) (w : ℕ) (some_wanted : 0 < w) where
-  part_short : length src < at + 4 → (Fault 9, store) ≡ flat_of document_flat src at store 0 w
+  part_short : length src < at + 4 → (Err BytesEnd, store) ≡ flat_of document_flat src at store 0 w
   unfolding document_flat
   part_short h = flat_missing document_flat src at 0 w 0 store _ (flat_starts document_flat src at store 0 w) some_wanted h
 

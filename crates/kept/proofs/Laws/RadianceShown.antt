@@ -7,12 +7,13 @@ use Prim.Native.Nat.{ℕ, zero, suc, ◌+◌, ◌-◌, ◌*◌, ◌≤◌, ◌<�
 use native.Mathlib.Omega.{arith}
 use borrow.Author.Tests.{lt-ltb, eq-eqb}
 use lib.ListN.{length, get_or, drop, take, take-append-drop, length-take, length-drop}
+use Rattle.steps.specs.declared.refusal.Reason.TheVariants.{BytesEnd}
 use Rattle.steps.specs.Place.{bytes_from}
 use Rattle.steps.proofs.Laws.Order.{by_order}
 use Rattle.steps.proofs.Laws.Place.{bytes_there, drop_past, length_bytes}
 use Rattle.steps.proofs.Laws.Taken.{fault_done}
-use Rattle.steps.specs.declared.Taken.{Taken}
-use Rattle.steps.specs.declared.Taken.TheVariants.{Done}
+use Rattle.steps.specs.Answer.{Taken}
+use Rattle.std.specs.Prelude.{Ok}
 use Rattle.pixel.specs.declared.Rgbe.{Rgbe}
 use Rattle.flat_read.specs.Flat.{is_repeat, crate_flat, flat_of}
 use Rattle.flat_read.proofs.Laws.Flat.{NoRepeat, repeat_not_0, crate_plain}
@@ -100,18 +101,18 @@ module _ (src : List ℕ) (at : ℕ) (store : List ℕ) where
     by_pixel two other = (q ∷ qs, rest, size, flat_by_pixel src at store rest q qs wide short none there two (not_mark _ _ other))
 
   module _ (next : ℕ) (s : List ℕ) where
-    taken : (a : Taken × List ℕ) → a ≡ (Done next, s) → a.0 ≡ Done next
+    taken : (a : Taken × List ℕ) → a ≡ (Ok next, s) → a.0 ≡ Ok next
     taken a e = ap (λ (z : Taken × List ℕ). z.0) e
 
     -- a flat part that is done stands there
-    part : (store : List ℕ) (w : ℕ) → 0 < w → flat_of crate_flat src at store 0 w ≡ (Done next, s) → Stand src at w
+    part : (store : List ℕ) (w : ℕ) → 0 < w → flat_of crate_flat src at store 0 w ≡ (Ok next, s) → Stand src at w
     part store w h e = let p = (crate_plain src at store 0 w).upto next (taken _ e) in (omega (arith, p.0, p.1 h), p.2)
 
-    by_kind : (n : ℕ) → is_flat_width (suc n) ≡ false → (Marked src at → ⊥) → rest_by (parts_of Crate) src at (suc n) (kind_of src at) (crate_start src at store) ≡ (Done next, s) → Explained src at store (suc n)
+    by_kind : (n : ℕ) → is_flat_width (suc n) ≡ false → (Marked src at → ⊥) → rest_by (parts_of Crate) src at (suc n) (kind_of src at) (crate_start src at store) ≡ (Ok next, s) → Explained src at store (suc n)
     unfolding parts_of
     by_kind n t other =
-        kind_cases src at (λ z. z ≡ kind_of src at → rest_by (parts_of Crate) src at (suc n) z (crate_start src at store) ≡ (Done next, s) → Explained src at store (suc n))
-        (λ ek e. fault_done 9 next _ s e)
+        kind_cases src at (λ z. z ≡ kind_of src at → rest_by (parts_of Crate) src at (suc n) z (crate_start src at store) ≡ (Ok next, s) → Explained src at store (suc n))
+        (λ ek e. fault_done BytesEnd next _ s e)
         (λ h f ek e. by_first n t (part (crate_start src at store) (suc n) (omega arith) e) f)
         (λ h f m ek e. absurd (other ek))
         (λ h f m ek e. let wide = not_flat (suc n) false (sym t) refl in
@@ -121,7 +122,7 @@ module _ (src : List ℕ) (at : ℕ) (store : List ℕ) where
         refl
 
     -- the crate reading shows no flat row but the document's
-    pub flat_explained : (w : ℕ) → 0 < w → (is_flat_width w ≡ false → Marked src at → ⊥) → crate_row src at store w ≡ (Done next, s) → Explained src at store w
+    pub flat_explained : (w : ℕ) → 0 < w → (is_flat_width w ≡ false → Marked src at → ⊥) → crate_row src at store w ≡ (Ok next, s) → Explained src at store w
     unfolding row_of row_by parts_of
     flat_explained zero h other e = absurd (omega arith)
     flat_explained (suc n) h other e = go (is_flat_width (suc n)) refl

@@ -14,7 +14,7 @@ use Rattle.steps.specs.Width.{is_coded}
 use Rattle.steps.proofs.Laws.Order.{by_order}
 use Rattle.steps.proofs.Laws.Place.{drop_past}
 use Rattle.steps.proofs.Laws.Turns.{by_test}
-use Rattle.steps.specs.declared.Taken.{Taken}
+use Rattle.steps.specs.Answer.{Taken}
 use Rattle.channels_read.specs.Channel as read
 use Rattle.channels_read.specs.Channel.{Chan, chan, document_count, span_taken, span_of, channel_turn}
 use Rattle.channels_read.specs.Channels.{Chans, chans, chans_turn}
@@ -80,7 +80,7 @@ module _ (src : List ℕ) (channel width : ℕ) where
       (λ m d l f e. by_order 0 (get_or src x.at 0)
       (λ c. let is : z ≡ span_of src channel (get_or src x.at 0) m x = cc in nothing_before x m d l f c (subst Nothing is (zero_spans n z y turns count)))
       (λ c. zero_here x (record { wants = d; there = l; zero = omega arith })))
-      (λ number d l f e. let no : ◌≡◌ {A = ℕ} 0 1 = cc in absurd (omega arith))
+      (λ reason d l f e. let no : ◌≡◌ {A = ℕ} 0 1 = cc in absurd (omega arith))
       (λ m d l f e. let no : ◌≡◌ {A = ℕ} 0 1 = cc in absurd (omega arith))
       (λ d l e. let no : ◌≡◌ {A = ℕ} 0 1 = cc in absurd (omega arith))
       (λ d e. let no : ◌≡◌ {A = ℕ} 0 1 = cc in absurd (omega arith))
@@ -107,7 +107,7 @@ module _ (src : List ℕ) (w : ℕ) where
       ⊎_elim (zero_then x.channel x.at x.store next)
       (λ (xs, found). ap (λ (u : Found (List ℕ)). and_then u next) found ∙ (rw place at (behind xs)))
       (component_or src x.at x.store x.channel w n s (sym e)))
-      (λ number s h e t. let no : ◌≡◌ {A = ℕ} 0 1 = cc in absurd (omega arith))
+      (λ reason s h e t. let no : ◌≡◌ {A = ℕ} 0 1 = cc in absurd (omega arith))
       (λ h t. let no : ◌≡◌ {A = ℕ} 0 1 = cc in absurd (omega arith))
       turn
 

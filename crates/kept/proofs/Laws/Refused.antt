@@ -5,6 +5,8 @@ use mathlib.Core.Path.{◌≡◌, refl, sym, subst}
 use lib.Dec.{ltb}
 use lib.Ieee.{Float}
 use lib.ListN.{length}
+use Rattle.steps.specs.Refusal.{reason_number}
+use Rattle.std.specs.Prelude.{Err}
 use Rattle.steps.specs.Place.{spread}
 use Rattle.steps.specs.Answer.{Answer, done, refused, refuse, Check, check, checked}
 use Rattle.steps.specs.declared.refusal.Refusal.{Refusal}
@@ -16,13 +18,11 @@ use Rattle.steps.specs.declared.Reading.{Reading}
 use Rattle.rows_read.specs.Row.{row_of, RowFault}
 use Rattle.reader.specs.Frame.{stored_of, cleared, rows_of}
 use Rattle.reader.specs.Read.{frame_checks, pixel_by, answer_of, framed, read_by, read_of, ReadPromise}
-use Rattle.reader.specs.declared.ReadAnswer.TheVariants as read
 use Rattle.reader.proofs.Laws.Read.{rows_number}
 use Rattle.frames_written.specs.Samples.{first_bright}
 use Rattle.frames_written.specs.Frame.{frame_of, file_of}
 use Rattle.writer.specs.Write as writer
 use Rattle.writer.specs.Write.{Left, bright_checked, stored, write_of, write4_of, WritePromise, Write4Promise}
-use Rattle.writer.specs.declared.WriteAnswer.TheVariants as write
 
 -- what holds of each refusal and of the rest holds of the checks
 every : {A : Type 0} (P : A → Type 0) (f : ℕ → A) (checks : List Check) (rest : A) → ((n : ℕ) → P (f n)) → P rest → P (checked f checks rest)
@@ -54,9 +54,9 @@ module _ (reading : Reading) (bytes : List ℕ) (widest highest : ℕ) (out : Li
       every Same (λ n. (refuse n, out, store)) (head_checks reading bytes widest highest ++ frame_checks head out store) (framed head rows) (λ m n k e not. (refl, refl))
       (by_rows head rows.0 rows.1 rows.2 (λ number row e. rows_number reading (pixel_by reading) bytes (stored_of head) head.taken out (cleared (stored_of head).long store) number row e))
 
-  pub read_refused_same : (refusal : Refusal) (out' : List Float) (store' : List ℕ) → ReadPromise reading bytes widest highest out store (read.Refused refusal) out' store'
-      → (RowFault reading refusal.number → ⊥) → (out' ≡ out) × (store' ≡ store)
-  read_refused_same refusal out' store' promise = subst Same (sym promise) same refusal.number refusal.place refl
+  pub read_refused_same : (refusal : Refusal) (out' : List Float) (store' : List ℕ) → ReadPromise reading bytes widest highest out store (Err refusal) out' store'
+      → (RowFault reading (reason_number refusal.reason) → ⊥) → (out' ≡ out) × (store' ≡ store)
+  read_refused_same refusal out' store' promise = subst Same (sym promise) same (reason_number refusal.reason) refusal.place refl
 
 -- ---- The writer
 
@@ -86,8 +86,8 @@ module _ (w h : ℕ) (out : List ℕ) where
   unfolding write4_of
   write4_unchanged px = every Unchanged (λ n. (refuse n, out)) (writer.frame_checks w h (length px) 4) (stored (frame_of px w h) out) fails (stored_unchanged (frame_of px w h))
 
-  pub write_refused_same : (samples : List Float) (refusal : Refusal) (out' : List ℕ) → WritePromise w h samples out (write.Refused refusal) out' → out' ≡ out
-  write_refused_same samples refusal out' promise = subst Unchanged (sym promise) (write_unchanged samples) refusal.number refusal.place refl
+  pub write_refused_same : (samples : List Float) (refusal : Refusal) (out' : List ℕ) → WritePromise w h samples out (Err refusal) out' → out' ≡ out
+  write_refused_same samples refusal out' promise = subst Unchanged (sym promise) (write_unchanged samples) (reason_number refusal.reason) refusal.place refl
 
-  pub write4_refused_same : (px : List ℕ) (refusal : Refusal) (out' : List ℕ) → Write4Promise w h px out (write.Refused refusal) out' → out' ≡ out
-  write4_refused_same px refusal out' promise = subst Unchanged (sym promise) (write4_unchanged px) refusal.number refusal.place refl
+  pub write4_refused_same : (px : List ℕ) (refusal : Refusal) (out' : List ℕ) → Write4Promise w h px out (Err refusal) out' → out' ≡ out
+  write4_refused_same px refusal out' promise = subst Unchanged (sym promise) (write4_unchanged px) (reason_number refusal.reason) refusal.place refl

@@ -4,8 +4,8 @@ use mathlib.Core.List.{List}
 use mathlib.Core.Path.{◌≡◌, refl, ap, ◌∙◌}
 use native.Mathlib.Omega.{arith}
 use lib.ListN.{length}
-use Rattle.steps.specs.declared.Taken.{Taken}
-use Rattle.steps.specs.declared.Taken.TheVariants.{Done, Fault}
+use Rattle.steps.specs.Answer.{Taken}
+use Rattle.std.specs.Prelude.{Ok, Err}
 use Rattle.rows_read.specs.Row.{RowRule}
 use Rattle.rows_read.specs.Middle.{Alike, Alone, Rests}
 use Rattle.rows_read.proofs.Laws.Bounds.{SoundRow}
@@ -20,9 +20,9 @@ module _ (row_rule : RowRule) (sound : SoundRow row_rule) (bytes : List ℕ) (lo
       x : ℕ × List ℕ
       x = before row_rule bytes long at store k
 
-      by : (at ≤ x.0) × (x.0 ≤ length bytes) → (t : Taken) → ((next : ℕ) → t ≡ Done next → x.0 ≤ length bytes → (x.0 ≤ next) × (next ≤ length bytes)) → (at ≤ onward t x.0) × (onward t x.0 ≤ length bytes)
-      by here (Done next) on = (omega (arith, on next refl here.1), omega (arith, on next refl here.1))
-      by here (Fault number) on = here
+      by : (at ≤ x.0) × (x.0 ≤ length bytes) → (t : Taken) → ((next : ℕ) → t ≡ Ok next → x.0 ≤ length bytes → (x.0 ≤ next) × (next ≤ length bytes)) → (at ≤ onward t x.0) × (onward t x.0 ≤ length bytes)
+      by here (Ok next) on = (omega (arith, on next refl here.1), omega (arith, on next refl here.1))
+      by here (Err reason) on = here
 
 -- rows that are done in some bytes, with all that they took among the first n, are those of any other bytes that begin so
 module _ (row_rule : RowRule) (alone : Alone 0 row_rule) (bytes other : List ℕ) (n : ℕ) (alike : Alike n bytes other) (long at : ℕ) (store : List ℕ) where

@@ -8,6 +8,8 @@ use lib.Dec.{ltb}
 use lib.Ieee.{Float, nan}
 use lib.ListN.{length, get_or, take, drop}
 use lib.Seq.{get_or-take, length-take-le, take_at, drop_at}
+use Rattle.std.specs.Prelude.{Result, Ok}
+use Rattle.steps.specs.declared.refusal.Refusal.{Refusal}
 use Rattle.steps.specs.Answer.{Answer, done}
 use Rattle.steps.specs.Place.{spread}
 use Rattle.steps.proofs.Laws.Place.{spread_front}
@@ -23,8 +25,6 @@ use Rattle.rows_read.specs.Row.{row_of}
 use Rattle.frames_written.specs.Samples.{pixel_at, four, packed}
 use Rattle.frames_written.specs.Frame.{frame_of, file_of}
 use Rattle.writer.specs.Write.{WritePromise, write_of}
-use Rattle.writer.specs.declared.WriteAnswer.{WriteAnswer}
-use Rattle.writer.specs.declared.WriteAnswer.TheVariants.{Done}
 use Rattle.writer.proofs.Laws.Told.{write_told, write_once}
 use Rattle.kept.specs.Back.{pixel, Sizes, Enough, IsWritten}
 use Rattle.kept.specs.Twice.{AllTwice, frame_in, SavedTwice, SameFile, CallsSaveTwice}
@@ -80,14 +80,14 @@ module _ (reading : Reading) (w h : ℕ) (samples : List Float) (sizes : Sizes w
         bright_is_over (pixel frame k) ∙ ap (λ (q : Rgbe). ltb 255 q.e) (same_bytes k l) ∙ sym (bright_is_over (pixel samples k)) ∙ not_bright (pixel samples k) (twice_below reading _ (all k l))
 
     -- so a call of the writer with room for the file leaves that file
-    same_call : (first tail lent' left' : List ℕ) (again : WriteAnswer) → first ≡ file_of samples w h ++ tail → WritePromise w h frame lent' again left' → length (file_of samples w h) ≤ length lent'
+    same_call : (first tail lent' left' : List ℕ) (again : Result ℕ Refusal) → first ≡ file_of samples w h ++ tail → WritePromise w h frame lent' again left' → length (file_of samples w h) ≤ length lent'
         → SameFile reading w h (length (file_of samples w h)) first left.0 lent' again left'
     same_call first tail lent' left' again is wrote room =
         let file : List ℕ = file_of samples w h in
         let due : write_of w h frame lent' ≡ (done (length file), spread 1 lent' 0 file) =
         passing_written w h frame sizes frame_length same_passes lent' (subst (λ (f : List ℕ). length f ≤ length lent') (sym same_file) room)
         ∙ ap (λ (f : List ℕ). (done (length f), spread 1 lent' 0 f)) same_file in
-        let once = write_once w h again (Done (length file)) frame lent' left' (spread 1 lent' 0 file) wrote (sym due) in
+        let once = write_once w h again (Ok (length file)) frame lent' left' (spread 1 lent' 0 file) wrote (sym due) in
         let stands = once.1 ∙ spread_front lent' file room in
         record {
           read = (packed_back reading w h samples sizes rest widest highest out store enough).answered;

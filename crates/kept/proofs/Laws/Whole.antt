@@ -7,11 +7,12 @@ use native.Mathlib.Omega.{arith}
 use borrow.Author.Tests.{le-ltb, ltb-false, eqb-false}
 use lib.Ieee.{Float}
 use lib.ListN.{length}
+use Rattle.steps.specs.Refusal.{reason_number}
 use Rattle.steps.proofs.Laws.Order.{by_order}
 use Rattle.steps.specs.Loop.{Turn, more, halt, run, lead}
 use Rattle.steps.specs.Answer.{done}
-use Rattle.steps.specs.declared.Taken.{Taken}
-use Rattle.steps.specs.declared.Taken.TheVariants.{Done, Fault}
+use Rattle.steps.specs.Answer.{Taken}
+use Rattle.std.specs.Prelude.{Ok, Err}
 use Rattle.header.specs.declared.Head.{Head}
 use Rattle.header.proofs.Laws.Head.{header_upright, header_within}
 use Rattle.steps.specs.declared.Reading.TheVariants.{Crate}
@@ -34,8 +35,8 @@ use Rattle.kept.proofs.Laws.Least.{row_some}
 use Rattle.kept.proofs.Laws.Alone.{header_alone}
 
 abbrev next_of : Taken → ℕ
-next_of (Done next) = next
-next_of (Fault number) = 0
+next_of (Ok next) = next
+next_of (Err reason) = 0
 
 -- ---- The rows
 
@@ -52,7 +53,7 @@ module _ (bytes : List ℕ) (stored : Stored) (some : 0 < stored.long) where
       (λ next o' s' l f r.
       let read = ap (λ (z : Taken × List ℕ). z.0) (sym (went_on crate_row crate_pixel stored.long (stored.place x.row) bytes x.at x.out o' x.store s' next f).0) in
       absurd (omega (arith, row_some bytes x.at x.store stored.long next some in_b read)))
-      (λ number o' s' l f r. refused_done number _ p _ o _ s r)
+      (λ reason o' s' l f r. refused_done (reason_number reason) _ p _ o _ s r)
       (λ l r. l)
       e
 
@@ -79,7 +80,7 @@ module _ (bytes : List ℕ) (stored : Stored) (some : 0 < stored.long) where
       let row = sym (went_on crate_row crate_pixel stored.long (stored.place x.row) bytes x.at x.out o' x.store s' next f).0 in
       let inside = ((reading_sound Crate bytes x.at x.store stored.long).onward next (ap (λ (z : Taken × List ℕ). z.0) row) in_b).1 in
       more_rows next o' s' l et r row inside (row_or_cut bytes x.at x.store stored.long next s' in_b row) (rows_or k (rows next (x.row + 1) s' o') p o s inside r))
-      (λ number o' s' l f et r. refused_done number _ p _ o _ s r)
+      (λ reason o' s' l f et r. refused_done (reason_number reason) _ p _ o _ s r)
       (λ l et r. inr (λ rest. ap (lead (run (T (bytes ++ rest)) no_rows k)) (turn_over (bytes ++ rest) x l) ∙ r))
       refl e
     where
@@ -87,8 +88,8 @@ module _ (bytes : List ℕ) (stored : Stored) (some : 0 < stored.long) where
       Or = Cut x ⊎ ((rest : List ℕ) → lead (run (T (bytes ++ rest)) no_rows k) (T (bytes ++ rest) x) ≡ (done p, o, s))
 
       more_rows : (next : ℕ) (o' : List Float) (s' : List ℕ) → x.row < stored.count → T bytes x ≡ more (rows next (x.row + 1) s' o')
-          → run (T bytes) no_rows k (rows next (x.row + 1) s' o') ≡ (done p, o, s) → crate_row bytes x.at x.store stored.long ≡ (Done next, s') → next ≤ length bytes
-          → ((c : CutRow bytes x.at x.store stored.long) × Short bytes stored.long c.end) ⊎ ((other : List ℕ) → Alike (length bytes) bytes other → crate_row other x.at x.store stored.long ≡ (Done next, s'))
+          → run (T bytes) no_rows k (rows next (x.row + 1) s' o') ≡ (done p, o, s) → crate_row bytes x.at x.store stored.long ≡ (Ok next, s') → next ≤ length bytes
+          → ((c : CutRow bytes x.at x.store stored.long) × Short bytes stored.long c.end) ⊎ ((other : List ℕ) → Alike (length bytes) bytes other → crate_row other x.at x.store stored.long ≡ (Ok next, s'))
           → Cut (rows next (x.row + 1) s' o') ⊎ ((rest : List ℕ) → run (T (bytes ++ rest)) no_rows k (rows next (x.row + 1) s' o') ≡ (done p, o, s))
           → Or
       more_rows next o' s' l et r row inside (inl (c, short)) after =
