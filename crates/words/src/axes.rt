@@ -2,8 +2,6 @@
 ghost use Rattle.std.specs.Prelude.{◌≡◌};
 ghost use Rattle.words.specs.Axes.{axis_of, axes_of};
 
-use crate::lines;
-
 // How the stored rows lie in the picture: whether X is named first, so that each is a column; whether Y runs upward; whether X runs leftward.
 #[derive(Clone, Copy, Debug, PartialEq, Eq)]
 pub struct Orientation {
@@ -20,23 +18,17 @@ pub enum Axis {
 }
 
 // The axis that a field names.
-#[tactic(auto, unfolding(crate::specs::Axes::axis_of))]
+#[tactic(auto, using(crate::proofs::Laws::Axes::axis_two, crate::proofs::Laws::Axes::axis_short, crate::proofs::Laws::Axes::axis_long))]
 fn axis_of(field: &[u8]) -> Option<Axis>
     ensures { result ≡ axis_of field.now }
 {
-    if lines::same(field, b"-Y") {
-        return Some(Axis::Y { upward: false });
+    match field {
+        b"-Y" => Some(Axis::Y { upward: false }),
+        b"+Y" => Some(Axis::Y { upward: true }),
+        b"+X" => Some(Axis::X { leftward: false }),
+        b"-X" => Some(Axis::X { leftward: true }),
+        _ => None,
     }
-    if lines::same(field, b"+Y") {
-        return Some(Axis::Y { upward: true });
-    }
-    if lines::same(field, b"+X") {
-        return Some(Axis::X { leftward: false });
-    }
-    if lines::same(field, b"-X") {
-        return Some(Axis::X { leftward: true });
-    }
-    None
 }
 
 // The axes that the first and the third field name: one of each letter.
