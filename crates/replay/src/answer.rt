@@ -1,39 +1,41 @@
-// One line, answered.
-ghost use Rattle.std.specs.Prelude.{◌≤◌};
+// What a line is answered.
+use crate::shown::{Length, OrNone, Said, Taken, Values};
+use header::Head;
+use std::fmt;
+use std::fmt::{Display, Formatter, Write};
+use steps::refusal::Refusal;
 
-use crate::names::Name;
-use crate::{names, print, reads, writes};
-use line_fields::text;
-use line_fields::text::Pair;
+// What is lent to the calls: room for whatever a line can write.
+#[derive(Drop)]
+pub(crate) struct Room {
+    pub bytes: [u8; 524288],
+    pub samples: [f32; 131072],
+    pub lent: [u8; 524288],
+}
 
-// Puts the answer to a line.
-pub(crate) fn line(
-    rt: &impl Print,
-    line: &[u8],
-    bytes: &mut [u8],
-    samples: &mut [f32],
-    lent: &mut [u8],
-    page: &mut [u8; 65536],
-    put: usize,
-) -> usize
-    requires { put ≤ 65536 }
-    ensures { result ≤ 65536 }
-{
-    let end = text::field_end(line, 0);
-    let name = names::name_of(&line[0..end]);
-    let pair = text::pair_at(line, end + 1);
-    let Pair::Both { a, b, next } = pair else {
-        return print::unknown(rt, page, put);
-    };
-    match name {
-        Name::Read(by) => reads::read(rt, by, line, next, a, b, bytes, samples, lent, page, put),
-        Name::Head(by) => reads::head(rt, by, line, next, a, b, bytes, page, put),
-        Name::Size => writes::size(rt, line, next, a, b, page, put),
-        Name::Worst => writes::worst(rt, line, next, a, b, page, put),
-        Name::Length => writes::length(rt, line, next, a, b, samples, page, put),
-        Name::Length4 => writes::length4(rt, line, next, a, b, bytes, page, put),
-        Name::Write => writes::write(rt, line, next, a, b, samples, lent, page, put),
-        Name::Write4 => writes::write4(rt, line, next, a, b, bytes, lent, page, put),
-        Name::Other => print::unknown(rt, page, put),
+// What the calls answer, with what they leave in the output and in the row store.
+#[derive(Clone, Copy)]
+pub(crate) enum Answer<'a> {
+    Sizes(Option<usize>, Option<usize>),
+    Length(Result<usize, Refusal>),
+    Written(Result<usize, Refusal>, &'a [u8]),
+    Head(Result<Head, Refusal>),
+    Said(Result<Head, Refusal>),
+    Frame(Result<Head, Refusal>, &'a [f32], &'a [u8]),
+}
+
+impl Display for Answer<'_> {
+    // The answer as a line without its end.
+    fn fmt<W: Write>(&self, f: &mut Formatter<W>) -> fmt::Result {
+        match *self {
+            Answer::Sizes(read, written) => write!(f, "{} {}", OrNone(read), OrNone(written)),
+            Answer::Length(length) => write!(f, "{}", Length(length)),
+            Answer::Written(length, out) => write!(f, "{} {}", Length(length), Values(out)),
+            Answer::Head(head) => write!(f, "{}", Taken(head)),
+            Answer::Said(head) => write!(f, "{} {}", Taken(head), Said(head.ok())),
+            Answer::Frame(head, out, store) => {
+                write!(f, "{} {} {}", Taken(head), Values(out), Values(store))
+            }
+        }
     }
 }
