@@ -38,6 +38,7 @@ impl Head {
 }
 
 // The checks 3 to 5 of the fields of height and width: both sizes, the width first.
+// The two limits come as the calls from C have them; a struct would only be taken apart again here.
 fn read_sizes(
     height: &[u8],
     width: &[u8],

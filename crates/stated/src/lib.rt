@@ -22,7 +22,7 @@ pub enum Colour {
 }
 
 // What the lines say together, where they say it: the colours, and the number by which the samples were multiplied.
-// A ghost field can't hold that this number is `Sound`: `stating` of the specs makes a Said of any number.
+// That this number is `Sound` is no ghost field: `stating` of the specs, whose meaning stays, makes a Said of any number.
 #[derive(Clone, Copy, Debug, PartialEq)]
 pub struct Said {
     pub colour: Option<Colour>,
@@ -85,7 +85,7 @@ fn with_line(said: Said, line: &[u8]) -> Result<Said, Reason>
     Ok(said)
 }
 
-// What the lines from `at` on say, up to the one that ends the header.
+// What the lines from `at` on say, up to the one that ends the header. A `while`, since each turn goes on at the next line, as `said_turn` of the specs does.
 fn read_lines(bytes: &[u8], at: usize) -> Result<Said, Reason>
     requires { at ≤ length bytes.now }
     ensures { paper_of result ≡ said_of bytes.now at }

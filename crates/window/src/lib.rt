@@ -55,7 +55,7 @@ pub fn read_row(
     row_part(more, part.len(), taken)
 }
 
-// Moves the bytes from `at` to `end` to the front; those behind them stay as they were.
+// Moves the bytes from `at` to `end` to the front; those behind them stay as they were. The library has no `copy_within`.
 #[tactic(auto, using(crate::proofs::Laws::Slide::slid_again))]
 pub fn slide(bytes: &mut [u8], at: usize, end: usize)
     requires { (at ≤ end) × (end ≤ length bytes.old) }

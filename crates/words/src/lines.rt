@@ -15,7 +15,7 @@ pub fn past(bytes: &[u8], at: usize, b: u8) -> usize
     }
 }
 
-// Whether two byte strings are the same.
+// Whether two byte strings are the same: `==`, by the word that the definitions of fields and lines have for it.
 #[tactic(auto, using(crate::proofs::Laws::Lines::same_bytes))]
 pub fn same(a: &[u8], b: &[u8]) -> bool
     ensures { result ≡ same a.now b.now }
@@ -31,7 +31,7 @@ pub fn is_first(line: &[u8]) -> bool
     same(line, b"#?RADIANCE\n") || same(line, b"#?RGBE\n")
 }
 
-// The place after the further lines, which start at `at`.
+// The place after the further lines, which start at `at`. A `while`, since each turn goes on at the next line, as `line_turn` of the specs does.
 pub fn lines_end(bytes: &[u8], at: usize) -> usize
     requires { at ≤ length bytes.now }
     ensures value { result ≡ lines_end bytes.now at }
