@@ -1,3 +1,2 @@
 -- The laws of the definitions in `specs/`: of answers as they are put, and of a header's values.
-pub mod Numbers
 pub mod Values

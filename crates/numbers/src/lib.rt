@@ -1,4 +1,4 @@
-// The eight numbers of an answer, as programs in C and Rust get them.
+// The eight numbers of an answer, as programs in C and Rust get them: the C interface has numbers for kinds.
 #![tactic(auto)]
 
 ghost use Rattle.std.specs.Prelude.{◌≡◌};

@@ -1,2 +1,0 @@
--- `Laws` has what the proofs of several functions use.
-pub mod Laws
