@@ -1,2 +1,2 @@
--- The laws of the definitions in `specs/`: of answers as they are put, and of a header's values.
+-- The laws of the definitions in `specs/`.
 pub mod Values
