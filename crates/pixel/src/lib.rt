@@ -81,9 +81,9 @@ fn crate_shift(e: u8) -> u32
     ensures { result ≡ crate_shift e }
 {
     if e > 128 {
-        141 + (e as u32 - 128) % 32
+        141 + (u32::from(e) - 128) % 32
     } else {
-        141 - (128 - e as u32) % 32
+        141 - (128 - u32::from(e)) % 32
     }
 }
 
@@ -93,7 +93,7 @@ pub fn shift(reading: Reading, e: u8) -> u32
 {
     match reading {
         Reading::Crate => crate_shift(e),
-        Reading::Document => e as u32 + 12,
+        Reading::Document => u32::from(e) + 12,
     }
 }
 
@@ -102,8 +102,8 @@ pub fn count(reading: Reading, m: u8) -> u32
     ensures { result ≡ count_of reading m }
 {
     match reading {
-        Reading::Crate => m as u32,
-        Reading::Document => 2 * m as u32 + 1,
+        Reading::Crate => u32::from(m),
+        Reading::Document => 2 * u32::from(m) + 1,
     }
 }
 
@@ -116,27 +116,16 @@ fn scale(reading: Reading, e: u8) -> f32
     }
     match reading {
         Reading::Crate => power(crate_shift(e)),
-        Reading::Document => any_power(e as u32 + 12),
+        Reading::Document => any_power(u32::from(e) + 12),
     }
-}
-
-// Four bytes as one word, the first lowest.
-fn word(a: u8, b: u8, c: u8, d: u8) -> u32
-    ensures { AsWord (record { r = a; g = b; b = c; e = d }) result }
-{
-    a as u32 + b as u32 * 256 + c as u32 * 65536 + d as u32 * 16777216
 }
 
 // The four bytes of a word.
 fn parts_of(w: u32) -> Rgbe
     ensures { (q : Rgbe) → AsWord q w → result ≡ q }
 {
-    Rgbe {
-        r: (w % 256) as u8,
-        g: (w / 256 % 256) as u8,
-        b: (w / 65536 % 256) as u8,
-        e: (w / 16777216) as u8,
-    }
+    let [r, g, b, e] = w.to_le_bytes();
+    Rgbe { r, g, b, e }
 }
 
 // The four bytes of the pixel from a place on.
@@ -144,7 +133,7 @@ pub fn rgbe_at(bytes: &[u8], i: usize) -> Rgbe
     requires { i + 4 ≤ length bytes.now }
     ensures { result ≡ rgbe_at bytes.now i }
 {
-    parts_of(word(bytes[i], bytes[i + 1], bytes[i + 2], bytes[i + 3]))
+    parts_of(u32::from_le_bytes([bytes[i], bytes[i + 1], bytes[i + 2], bytes[i + 3]]))
 }
 
 // Four bytes to three samples, by a reading.
@@ -160,6 +149,7 @@ pub fn from_bytes(reading: Reading, q: Rgbe) -> Pixel
 }
 
 // The larger of a number that is not negative and any sample.
+// Not f32::max: by its clause it may answer -0.0, which is not bright, and it compares twice.
 fn brighter(v: f32, x: f32) -> f32
     requires { T (bright v) }
     ensures { T (bright result) × (mag result ≡ max (mag v) (mag x)) }
@@ -178,7 +168,7 @@ fn largest(p: Pixel) -> f32
 pub fn is_too_bright(p: Pixel) -> bool
     ensures { result ≡ too_bright p }
 {
-    if largest(p) < TOO_BRIGHT { false } else { true }
+    !(largest(p) < TOO_BRIGHT)
 }
 
 // Whether a sample is above 2^126, so that it may be too bright.
@@ -195,7 +185,7 @@ fn digits_of(v: f32) -> u32
     requires fact_3 { mag v < 2 ^ 276 }
     ensures { result ≡ size (mag v) }
 {
-    f32::to_bits(v) / FIELD + 23
+    v.to_bits() / FIELD + 23
 }
 
 // A number below 256, rounded down: plus 2^23 it becomes a whole number next to it, which ends the bits of the sum.
@@ -205,7 +195,7 @@ fn round_down(y: f32) -> u32
     ensures { result ≡ mag y / 2 ^ 149 }
 {
     let sum = y + WHOLE;
-    let near = f32::to_bits(sum) % 512;
+    let near = sum.to_bits() % 512;
     if y < sum - WHOLE { near - 1 } else { near }
 }
 
@@ -220,6 +210,7 @@ fn byte_of(x: f32, digits: u32) -> u32
 }
 
 // A pixel's four bytes as one word, the first lowest: four bytes of one word are stored at once.
+// from_le_bytes would be no plainer, with a cast for each of the four.
 fn word_of(p: Pixel) -> u32
     requires { peak p < 2 ^ 276 }
     ensures { AsWord (bytes_of p) result }

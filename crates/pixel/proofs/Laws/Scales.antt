@@ -31,9 +31,6 @@ pub doc_shift_is : (reading : Reading) (e : ℕ) → reading ≡ Document → e 
 doc_shift_is reading e r = rw r
 
 -- ---- how many, by the reading
-pub crate_count_is : (reading : Reading) (m : ℕ) → reading ≡ Crate → m ≡ count_of reading m
-crate_count_is reading m r = rw r
-
 pub doc_count_is : (reading : Reading) (m : ℕ) → reading ≡ Document → 2 * m + 1 ≡ count_of reading m
 doc_count_is reading m r = rw r
 

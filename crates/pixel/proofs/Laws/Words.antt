@@ -15,8 +15,8 @@ module _ (a b c d w : ℕ) (ha : a < 256) (hb : b < 256) (hc : c < 256) (hd : d 
   third : w / 65536 % 256 ≡ c
   third = omega arith
 
-  fourth : w / 16777216 ≡ d
+  fourth : w / 16777216 % 256 ≡ d
   fourth = omega arith
 
-  pub word_parts : ◌≡◌ {A = Rgbe} (record { r = w % 256; g = w / 256 % 256; b = w / 65536 % 256; e = w / 16777216 }) (record { r = a; g = b; b = c; e = d })
+  pub word_parts : ◌≡◌ {A = Rgbe} (record { r = w % 256; g = w / 256 % 256; b = w / 65536 % 256; e = w / 16777216 % 256 }) (record { r = a; g = b; b = c; e = d })
   word_parts = λ i. record { r = first i; g = second i; b = third i; e = fourth i }

@@ -19,8 +19,5 @@ tested v p number is e =
     ap not (below_limit v number is ∙ ap (λ (n : ℕ). ltb n (2 ^ 276)) e)
     ∙ sym (bright_by_test p)
 
-pub returns-then-largest : goal.returns-then-largest
-returns-then-largest c = ap not (sym c.if-largest.true) ∙ tested c.largest.result c.args.p (passes _ c.largest.type_inv) c.largest.ensures.0 c.largest.ensures.1
-
-pub returns-else-largest : goal.returns-else-largest
-returns-else-largest c = ap not (sym c.if-largest.false) ∙ tested c.largest.result c.args.p (passes _ c.largest.type_inv) c.largest.ensures.0 c.largest.ensures.1
+pub returns : goal.returns
+returns c = tested c.largest.result c.args.p (passes _ c.largest.type_inv) c.largest.ensures.0 c.largest.ensures.1

@@ -32,4 +32,5 @@ pub returns-in-Crate : goal.returns-in-Crate
 returns-in-Crate c = search (some, crate_shift_is)
 
 pub returns-in-Document : goal.returns-in-Document
-returns-in-Document c = search (some, doc_shift_is)
+returns-in-Document c =
+    some _ _ _ _ c.if-e-eq0.false (rw c.from.ensures (doc_shift_is _ _ c.in-Document.is)) c.any_power.ensures

@@ -6,4 +6,4 @@ pub returns-in-Crate : goal.returns-in-Crate
 returns-in-Crate c = search crate_shift_is
 
 pub returns-in-Document : goal.returns-in-Document
-returns-in-Document c = search doc_shift_is
+returns-in-Document c = rw c.from.ensures (doc_shift_is _ _ c.in-Document.is)
