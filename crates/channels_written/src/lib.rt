@@ -13,6 +13,8 @@ pub struct Part {
     pub long: usize,
 }
 
+// A channel is three parameters and no struct: nearly each call is for another place or length, and would build it anew.
+
 // How far to go past the last two neighbours that differ of the four bytes of a channel from `at` on; 0 where all are equal.
 fn skip(px: &[u8], at: usize) -> usize
     requires { at + 12 < length px.now }
@@ -31,6 +33,7 @@ fn skip(px: &[u8], at: usize) -> usize
 }
 
 // How many of the `left` bytes of a channel gather before the first four that are equal, or the end.
+// A while, since each step is as long as what `skip` finds.
 fn gathered(px: &[u8], at: usize, left: usize) -> usize
     requires { at + 4 * left < length px.now + 4 }
     ensures { Gathers (channel px.now at left) result × Stops px.now at left result }
@@ -56,6 +59,7 @@ fn are_all(px: &[u8], at: usize, v: u8) -> bool
 }
 
 // How many of the first `cap` bytes of a channel are equal, counted by fours, the first four being so.
+// A while, since it ends where a `for` by fours would not say.
 fn equal_fours(px: &[u8], at: usize, cap: usize) -> usize
     requires { (4 ≤ cap) × (at + 4 * cap < length px.now + 4) × FourEqual px.now at }
     ensures { (4 ≤ result) × (result ≤ cap) × Equal px.now at result }

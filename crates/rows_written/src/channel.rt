@@ -15,6 +15,8 @@ fn run_length(n: usize) -> usize
 }
 
 // How many bytes the channel of w pixels that starts at `from` is written in.
+// A while, since each step is as long as its part; and a loop of its own beside that of `write_channel`: one loop over
+// a trait of what counts and what stores would need the trait, two types and four methods for these lines.
 pub(crate) fn channel_length(px: &[u8], from: usize, w: usize) -> usize
     requires { from + 4 * w < length px.now + 4 }
     ensures { result ≡ length (code (channel px.now from w)) }
@@ -48,6 +50,7 @@ fn copy_bytes(px: &[u8], at: usize, n: usize, out: &mut [u8], to: usize)
 }
 
 // Stores n bytes of a channel as literals, and returns the place after them.
+// A while, since a packet is stored in each step, of 128 bytes or of those that are left.
 fn write_literals(px: &[u8], at: usize, n: usize, out: &mut [u8], to: usize) -> usize
     requires { (at + 4 * n < length px.now + 4) × (to + length (literals 0 (channel px.now at n)) ≤ length out.old) }
     ensures { Stored out.old to (literals 0 (channel px.now at n)) result out.new }
@@ -79,7 +82,7 @@ fn write_run(px: &[u8], at: usize, n: usize, out: &mut [u8], to: usize) -> usize
     to + 2
 }
 
-// Stores the channel of w pixels that starts at `from`, and returns the place after it.
+// Stores the channel of w pixels that starts at `from`, and returns the place after it. A while, as in `channel_length`.
 pub(crate) fn write_channel(px: &[u8], from: usize, w: usize, out: &mut [u8], to: usize) -> usize
     requires { (from + 4 * w < length px.now + 4) × (to + length (code (channel px.now from w)) ≤ length out.old) }
     ensures { Stored out.old to (code (channel px.now from w)) result out.new }
