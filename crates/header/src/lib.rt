@@ -9,7 +9,7 @@ ghost use Rattle.words.specs.Fields.{fields_at};
 ghost use Rattle.header.specs.Head.{takes, lies_by, taking, HeaderPromise};
 ghost use Rattle.header.specs.Inner.{answer_of, sizes_answer, fields_answer};
 
-use stated::{Colour, Said};
+use stated::{Colour, Exposure, Said};
 use steps::Reading;
 use steps::refusal::{Reason, Refusal};
 use words::axes::Orientation;
@@ -23,7 +23,7 @@ pub struct Head {
     pub height: usize,
     pub taken: usize,
     pub colour: Option<Colour>,
-    pub exposure: Option<f32>,
+    pub exposure: Exposure,
     pub orientation: Orientation,
 }
 

@@ -5,6 +5,7 @@ use Rattle.steps.specs.Answer.{done, refused, refuse}
 use Rattle.steps.specs.declared.Reading.TheVariants.{Crate, Document}
 use Rattle.std.specs.Prelude.{Some, None}
 use Rattle.stated.specs.declared.Colour.TheVariants.{Xyze}
+use Rattle.stated.specs.declared.Exposure.TheVariants.{Stated}
 use Rattle.stated.specs.Said.{nothing}
 use Rattle.header.specs.Head.{head}
 use Rattle.words.specs.Lines.{rgbe_line, line_feed, space}
@@ -101,7 +102,7 @@ shown =
     -- and by the document reading answered, with the same samples
     ∷ reads Document (file (format ++ exposure) (rows (digit 1) (digit 1)) ++ (128 ∷ 64 ∷ 32 ∷ 129 ∷ []))
     (replicate 3 (whole 1 1)) (replicate 4 7)
-    (done (head (record { colour = Some Xyze; exposure = Some (whole 1 1) }) upright 1 1 56))
+    (done (head (record { colour = Some Xyze; exposure = Stated (whole 1 1) }) upright 1 1 56))
     (part 257 8 ∷ part 129 8 ∷ part 65 8 ∷ []) (128 ∷ 64 ∷ 32 ∷ 129 ∷ [])
     -- 9: a no-break space behind an axis is not trimmed
     ∷ reads Crate (file [] (minus_y ++ (194 ∷ 160 ∷ space ∷ 48 ∷ space ∷ (plus_x ++ (space ∷ digit 1))))) (none ∷ []) (replicate 4 7) (refuse 2) (none ∷ []) (replicate 4 7)

@@ -5,6 +5,8 @@ use Rattle.std.specs.Float.Ieee.{eq, to_bits}
 use Rattle.steps.specs.Loop.{pick}
 use Rattle.steps.specs.Answer.{Answer, done, refused, refuse}
 use Rattle.words.specs.declared.axes.Orientation.{Orientation}
+use Rattle.stated.specs.declared.Exposure.{Exposure}
+use Rattle.stated.specs.declared.Exposure.TheVariants.{Stated, NotStated}
 use Rattle.stated.specs.declared.Colour.{Colour}
 use Rattle.stated.specs.declared.Colour.TheVariants.{Rgbe, Xyze}
 use Rattle.header.specs.declared.Head.{Head}
@@ -29,9 +31,9 @@ unfoldable pub pattern_of : Float → ℕ
 pattern_of x = pick (eq x x) (to_bits binary32 x) 0
 
 -- the exposure: its bit pattern, which is not 0, since no header states 0
-abbrev pub exposure_of : Option Float → ℕ
-exposure_of (Some x) = pattern_of x
-exposure_of None = 0
+abbrev pub exposure_of : Exposure → ℕ
+exposure_of (Stated x) = pattern_of x
+exposure_of NotStated = 0
 
 -- by whether X is named first, whether Y runs upward, and whether X runs leftward
 abbrev pub axes_number : Bool → Bool → Bool → ℕ

@@ -6,7 +6,7 @@ ghost use Rattle.steps.specs.Answer.{paper_of};
 ghost use Rattle.numbers.specs.Numbers.{Values, colour_of, pattern_of, exposure_of, orientation_of, head_values, single, listed, numbers, counted};
 
 use header::Head;
-use stated::Colour;
+use stated::{Colour, Exposure};
 use steps::refusal::Refusal;
 use words::axes::Orientation;
 
@@ -68,12 +68,12 @@ fn pattern_of(x: f32) -> u32
 }
 
 // The exposure as a number.
-fn exposure_of(exposure: Option<f32>) -> u64
+fn exposure_of(exposure: Exposure) -> u64
     ensures { result ≡ exposure_of exposure }
 {
     match exposure {
-        None => 0,
-        Some(x) => u64::from(pattern_of(x)),
+        Exposure::NotStated => 0,
+        Exposure::Stated(x) => u64::from(pattern_of(x)),
     }
 }
 

@@ -5,7 +5,7 @@ ghost use Rattle.std.specs.Float.Ieee.{eq, to_bits};
 
 use header::Head;
 use hexadecimal::Written;
-use stated::Colour;
+use stated::{Colour, Exposure};
 use std::fmt;
 use std::fmt::{Display, Formatter, Write};
 use steps::refusal::Refusal;
@@ -96,7 +96,10 @@ impl Display for Said {
                 .and_then(|head| head.colour)
                 .map(|colour| Kind(colour)),
         );
-        let exposure = OrNone(self.0.and_then(|head| head.exposure).map(|x| Digits(x)));
+        let exposure = OrNone(self.0.and_then(|head| match head.exposure {
+            Exposure::Stated(x) => Some(Digits(x)),
+            Exposure::NotStated => None,
+        }));
         let axes = OrNone(self.0.map(|head| Axes(head.orientation)));
         write!(f, "{kind} {exposure} {axes}")
     }

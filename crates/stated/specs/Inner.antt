@@ -5,6 +5,8 @@ use Rattle.steps.specs.declared.refusal.Reason.{Reason}
 use Rattle.pixel.specs.Units.{of_units, mag}
 use Rattle.pixel.specs.Inner.{bright}
 use Rattle.words.specs.Sizes.{value_from}
+use Rattle.stated.specs.declared.Exposure.{Exposure}
+use Rattle.stated.specs.declared.Exposure.TheVariants.{Stated, NotStated}
 use Rattle.stated.specs.Rounded.{usable}
 use Rattle.stated.specs.Exposure.{Units, units, unread, is_few}
 use Rattle.stated.specs.declared.Said.{Said}
@@ -31,9 +33,9 @@ UsableFactor (Some x) = Usable x
 UsableFactor None = Unit {0}
 
 -- what was stated so far is such a number
-abbrev pub SoundSoFar : Option Float → Type 0
-SoundSoFar (Some x) = Usable x
-SoundSoFar None = Unit {0}
+abbrev pub SoundSoFar : Exposure → Type 0
+SoundSoFar (Stated x) = Usable x
+SoundSoFar NotStated = Unit {0}
 
 abbrev pub Sound : Said → Type 0
 Sound said = SoundSoFar said.exposure

@@ -1,5 +1,5 @@
 -- RULES 3.9 to 3.13: what the FORMAT and EXPOSURE lines of a header say, by a reading.
-use Rattle.std.specs.Prelude.{ℕ, ◌+◌, Bool, true, false, ◌&&◌, List, [], ◌∷◌, eqb, leb, length, get_or, take, drop, Float, Option, Some, None, Result, Ok, Err}
+use Rattle.std.specs.Prelude.{ℕ, ◌+◌, Bool, true, false, ◌&&◌, List, [], ◌∷◌, eqb, leb, length, get_or, take, drop, Some, None, Result, Ok, Err}
 use Rattle.steps.specs.Loop.{pick, Turn, more, halt, run}
 use Rattle.steps.specs.Answer.{Answer, done, refused, refuse, Check, check}
 use Rattle.steps.specs.Refusal.{reason_number}
@@ -9,6 +9,8 @@ use Rattle.steps.specs.declared.refusal.Reason.{Reason}
 use Rattle.pixel.specs.Units.{of_units, mag}
 use Rattle.words.specs.Lines.{line_feed, past, between, same}
 use Rattle.words.specs.Fields.{trim}
+use Rattle.stated.specs.declared.Exposure.{Exposure}
+use Rattle.stated.specs.declared.Exposure.TheVariants.{Stated, NotStated}
 use Rattle.stated.specs.Rounded.{product, usable}
 use Rattle.stated.specs.Exposure.{Units, units, unread, exposure_of}
 use Rattle.stated.specs.declared.Colour.{Colour}
@@ -17,7 +19,7 @@ use Rattle.stated.specs.declared.Said.{Said}
 
 -- neither is stated
 abbrev pub nothing : Said
-nothing = record { colour = None; exposure = None }
+nothing = record { colour = None; exposure = NotStated }
 
 -- ---- A line counts if it starts FORMAT= or EXPOSURE=; its rest is trimmed
 
@@ -54,12 +56,12 @@ formatted said rest =
 -- ---- Several EXPOSURE lines multiply in file order; one that can't be read, or is or becomes zero or infinite, is refusal 16
 
 -- what is stated together with a line of u times 2^-149
-abbrev pub together : Option Float → ℕ → ℕ
-together (Some x) u = product (mag x) u
-together None u = u
+abbrev pub together : Exposure → ℕ → ℕ
+together (Stated x) u = product (mag x) u
+together NotStated u = u
 
 abbrev pub stating : Said → ℕ → Said
-stating said n = record { colour = said.colour; exposure = Some (of_units n) }
+stating said n = record { colour = said.colour; exposure = Stated (of_units n) }
 
 unfoldable pub exposed : Said → Units → Answer Said
 exposed said (units u) = let n = together said.exposure u in pick (usable u && usable n) (done (stating said n)) (refuse 16)

@@ -21,18 +21,25 @@ pub enum Colour {
     Xyze,
 }
 
-// What the lines say together, where they say it: the colours, and the number by which the samples were multiplied.
-// That this number is `Sound` is no ghost field: `stating` of the specs, whose meaning stays, makes a Said of any number.
+// The number by which the samples were multiplied, if the header says one. An enum of its own, and no Option: RULES 12.2 lays it down.
+#[derive(Clone, Copy, Debug, PartialEq)]
+pub enum Exposure {
+    Stated(f32),
+    NotStated,
+}
+
+// What the lines say together.
+// That the exposure is `Sound` is no ghost field: `stating` of the specs, whose meaning stays, makes a Said of any number.
 #[derive(Clone, Copy, Debug, PartialEq)]
 pub struct Said {
     pub colour: Option<Colour>,
-    pub exposure: Option<f32>,
+    pub exposure: Exposure,
 }
 
 // What no lines say.
 const NOTHING: Said = Said {
     colour: None,
-    exposure: None,
+    exposure: Exposure::NotStated,
 };
 
 // What is said with a FORMAT line more, of which `rest` stands behind its key.
@@ -64,7 +71,7 @@ fn with_exposure(said: Said, rest: &[u8]) -> Result<Said, Reason>
     let x = number::factor_in(rest).ok_or(Reason::Exposure)?;
     let product = product::together(said.exposure, x).ok_or(Reason::Exposure)?;
     Ok(Said {
-        exposure: Some(product),
+        exposure: Exposure::Stated(product),
         ..said
     })
 }

@@ -6,6 +6,8 @@ ghost use Rattle.stated.specs.Rounded.{usable, product};
 ghost use Rattle.stated.specs.Said.{together};
 ghost use Rattle.stated.specs.Inner.{usable_factor, Usable, UsableFactor, SoundSoFar};
 
+use crate::Exposure;
+
 // The bits of plus infinity.
 const INFINITE: u32 = 2139095040;
 
@@ -28,13 +30,13 @@ fn times(x: f32, y: f32) -> Option<f32>
 }
 
 // The exposure with a line more, which says x.
-pub fn together(before: Option<f32>, x: f32) -> Option<f32>
+pub fn together(before: Exposure, x: f32) -> Option<f32>
     requires { SoundSoFar before × Usable x }
     ensures value { result ≡ usable_factor (together before (mag x)) }
     ensures usable_factor { UsableFactor result }
 {
     match before {
-        Some(so_far) => times(so_far, x),
-        None => Some(x),
+        Exposure::Stated(so_far) => times(so_far, x),
+        Exposure::NotStated => Some(x),
     }
 }

@@ -15,6 +15,8 @@ use Rattle.pixel.specs.Units.{Exactly}
 use Rattle.pixel.proofs.Laws.Patterns.{bits_of, bits_are}
 use Rattle.words.specs.Axes.{orientation}
 use Rattle.words.specs.declared.axes.Orientation.{Orientation}
+use Rattle.stated.specs.declared.Exposure.{Exposure}
+use Rattle.stated.specs.declared.Exposure.TheVariants.{Stated, NotStated}
 use Rattle.stated.proofs.Laws.Usable.{Above}
 use Rattle.header.specs.declared.Head.{Head}
 use Rattle.header.specs.Head.{header_of}
@@ -53,12 +55,12 @@ above_zero n h = go (size n - 24) refl
 
 pub exposure_zero :
     (reading : Reading) (bytes : List ℕ) (widest highest : ℕ) (head : Head) →
-    header_of reading bytes widest highest ≡ done head → exposure_of head.exposure ≡ 0 → head.exposure ≡ None
+    header_of reading bytes widest highest ≡ done head → exposure_of head.exposure ≡ 0 → head.exposure ≡ NotStated
 exposure_zero reading bytes widest highest head e z = go head.exposure (header_above reading bytes widest highest head e) z
   where
-    go : (w : Option Float) → Above w → exposure_of w ≡ 0 → w ≡ None
-    go None a z = refl
-    go (Some x) a z =
+    go : (w : Exposure) → Above w → exposure_of w ≡ 0 → w ≡ NotStated
+    go NotStated a z = refl
+    go (Stated x) a z =
         let n = a.0 in
         let bits : bits_of n ≡ 0 = sym (bits_are x n a.3) ∙ pattern_is x (exactly_some x n a.3) ∙ z in
         absurd (lt_irrefl 0 (subst (λ (b : ℕ). 0 < b) bits (above_zero n a.1)))

@@ -15,6 +15,8 @@ use Rattle.pixel.proofs.Laws.Units.{mul_values, units_exact, units_fits}
 use Rattle.pixel.proofs.Laws.Samples.{shape, own_mag, bright_exact}
 use Rattle.pixel.proofs.Laws.Patterns.{value_unique}
 use Rattle.pixel.proofs.Laws.Order.{lt_mag}
+use Rattle.stated.specs.declared.Exposure.{Exposure}
+use Rattle.stated.specs.declared.Exposure.TheVariants.{Stated, NotStated}
 use Rattle.stated.specs.Rounded.{nearest_units, product, usable}
 use Rattle.stated.specs.Said.{together}
 use Rattle.stated.specs.Inner.{usable_factor, Usable, SoundSoFar}
@@ -96,15 +98,15 @@ module _ (x y : Float) (f : T (fits binary32 x)) (g : T (fits binary32 y)) (u : 
 
 -- ---- with what was stated before
 
-pub together_first : (x : Float) (before : Option Float) → T (fits binary32 x) → Usable x → before ≡ None → Some x ≡ usable_factor (together before (mag x))
+pub together_first : (x : Float) (before : Exposure) → T (fits binary32 x) → Usable x → before ≡ NotStated → Some x ≡ usable_factor (together before (mag x))
 unfolding usable_factor
 together_first x before f u e =
     ap Some (usable_itself x f u)
     ∙ ap (λ (t : Bool). pick t (Some (of_units (mag x))) None) (sym u.1)
-    ∙ ap (λ (w : Option Float). usable_factor (together w (mag x))) (sym e)
+    ∙ ap (λ (w : Exposure). usable_factor (together w (mag x))) (sym e)
 
-pub together_more : (x y : Float) (before : Option Float) (r : Option Float) → before ≡ Some y → r ≡ usable_factor (product (mag y) (mag x)) → r ≡ usable_factor (together before (mag x))
-together_more x y before r e h = h ∙ ap (λ (w : Option Float). usable_factor (together w (mag x))) (sym e)
+pub together_more : (x y : Float) (before : Exposure) (r : Option Float) → before ≡ Stated y → r ≡ usable_factor (product (mag y) (mag x)) → r ≡ usable_factor (together before (mag x))
+together_more x y before r e h = h ∙ ap (λ (w : Exposure). usable_factor (together w (mag x))) (sym e)
 
-pub stated_usable : (y : Float) (before : Option Float) → before ≡ Some y → SoundSoFar before → Usable y
+pub stated_usable : (y : Float) (before : Exposure) → before ≡ Stated y → SoundSoFar before → Usable y
 stated_usable y before e h = subst SoundSoFar e h

@@ -25,6 +25,8 @@ use Rattle.pixel.proofs.Laws.Units.{exact_bright, mag_is}
 use Rattle.words.specs.Lines.{line_feed, past, between}
 use Rattle.words.specs.Fields.{trim}
 use Rattle.words.proofs.Laws.Lines.{same_bytes, past_moves}
+use Rattle.stated.specs.declared.Exposure.{Exposure}
+use Rattle.stated.specs.declared.Exposure.TheVariants.{Stated}
 use Rattle.stated.specs.Rounded.{nearest_units, usable}
 use Rattle.stated.specs.Exposure.{Units, units, unread, is_few, ahead, power_of, scaled_units, digit_units, point_units, exposure_of}
 use Rattle.stated.specs.Said.{nothing, format_key, exposure_key, starts, formatted, together, stating, exposed, heard, Place, going_on, said_turn, no_turns, said_of, said_by, paper_of}
@@ -118,12 +120,12 @@ module _ (said : Said) (rest : List ℕ) (f : Option Float) (ef : f ≡ factor_o
   pub exposure_unread : f ≡ None → refuse 16 ≡ exposed said (exposure_of rest)
   exposure_unread h = unread_line said (exposure_of rest) (sym ef ∙ h)
 
-  module _ (x : Float) (h : f ≡ Some x) (before : Option Float) (eb : before ≡ said.exposure) (g : Option Float) (eg : g ≡ usable_factor (together before (mag x))) where
+  module _ (x : Float) (h : f ≡ Some x) (before : Exposure) (eb : before ≡ said.exposure) (g : Option Float) (eg : g ≡ usable_factor (together before (mag x))) where
     line : (u : ℕ) × (exposure_of rest ≡ units u) × (usable u ≡ true) × (mag x ≡ u)
     line = read_units (exposure_of rest) x (told rest) (sym ef ∙ h)
 
     product : usable_factor (together said.exposure line.0) ≡ g
-    product = ap (λ (n : ℕ). usable_factor (together said.exposure n)) (sym line.3) ∙ ap (λ (w : Option Float). usable_factor (together w (mag x))) (sym eb) ∙ sym eg
+    product = ap (λ (n : ℕ). usable_factor (together said.exposure n)) (sym line.3) ∙ ap (λ (w : Exposure). usable_factor (together w (mag x))) (sym eb) ∙ sym eg
 
     tested : (t : Bool) → usable (together said.exposure line.0) ≡ t → exposed said (exposure_of rest) ≡ pick t (done (stating said (together said.exposure line.0))) (refuse 16)
     tested t e =
@@ -133,10 +135,10 @@ module _ (said : Said) (rest : List ℕ) (f : Option Float) (ef : f ≡ factor_o
     pub exposure_over : g ≡ None → refuse 16 ≡ exposed said (exposure_of rest)
     exposure_over k = sym (tested false (factor_none (together said.exposure line.0) (product ∙ k)))
 
-    pub exposure_stated : (z : Float) → g ≡ Some z → done record { colour = said.colour; exposure = Some z } ≡ exposed said (exposure_of rest)
+    pub exposure_stated : (z : Float) → g ≡ Some z → done record { colour = said.colour; exposure = Stated z } ≡ exposed said (exposure_of rest)
     exposure_stated z k =
         let i = factor_is (together said.exposure line.0) z (product ∙ k) in
-        ap (λ (y : Float). done record { colour = said.colour; exposure = Some y }) i.1 ∙ sym (tested true i.0)
+        ap (λ (y : Float). done record { colour = said.colour; exposure = Stated y }) i.1 ∙ sym (tested true i.0)
 
 -- where there is no number, the reason is the one that is given for that
 pub the_reason : {A : Type 0} (o : Option A) (r s : Reason) → o ≡ None → ◌≡◌ {A = Result A Reason} (Err r) (ok_or o s) → r ≡ s

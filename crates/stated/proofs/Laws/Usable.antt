@@ -6,13 +6,14 @@ use Prim.{Unit}
 use Prim.Native.Nat.{ℕ, ◌+◌, ◌*◌, ◌^◌, ◌<◌}
 use lib.ListN.{length}
 use lib.Pow.{pow_pos}
-use Rattle.std.specs.Prelude.{Option, Some, None, Float}
 use Rattle.steps.specs.Answer.{Answer, done, refused}
 use Rattle.steps.specs.declared.Reading.{Reading}
 use Rattle.steps.specs.declared.Reading.TheVariants.{Crate, Document}
 use Rattle.steps.proofs.Laws.Turns.{by_test, and_left, and_right, Leads, run_keeps}
 use Rattle.pixel.specs.Units.{of_units, Exactly, mag}
 use Rattle.words.specs.Lines.{line_feed, past, between, same}
+use Rattle.stated.specs.declared.Exposure.{Exposure}
+use Rattle.stated.specs.declared.Exposure.TheVariants.{Stated, NotStated}
 use Rattle.stated.specs.Rounded.{product, usable}
 use Rattle.stated.specs.Exposure.{Units, units, unread, exposure_of}
 use Rattle.stated.specs.Said.{nothing, format_key, exposure_key, starts, rgbe_format, xyze_format, rest_of, formatted, together, exposed, heard, Place, going_on, said_turn, no_turns, said_of, said_by, heard_in}
@@ -22,19 +23,19 @@ use Rattle.stated.proofs.Laws.Said.{Told, told, place}
 use Rattle.stated.proofs.Laws.Lines.{turn_cases}
 
 -- a number of 2^-149 that is not 0
-abbrev pub Above : Option Float → Type 0
-Above (Some x) = (n : ℕ) × (0 < n) × (n < 2 ^ 277) × Exactly x n
-Above None = Unit {0}
+abbrev pub Above : Exposure → Type 0
+Above (Stated x) = (n : ℕ) × (0 < n) × (n < 2 ^ 277) × Exactly x n
+Above NotStated = Unit {0}
 
 abbrev AbovePaper : Answer Said → Type 0
 AbovePaper (done said) = Above said.exposure
 AbovePaper (refused number place) = Unit {0}
 
 -- a number that is stated together with those before it is an f32
-together_exact : (before : Option Float) (u : ℕ) → Told (units u) → usable u ≡ true → usable (together before u) ≡ true → Exactly (of_units (together before u)) (together before u)
+together_exact : (before : Exposure) (u : ℕ) → Told (units u) → usable u ≡ true → usable (together before u) ≡ true → Exactly (of_units (together before u)) (together before u)
 unfolding product
-together_exact (Some x) u t e f = nearest_exact (mag x * u) (2 ^ 149) (pow_pos 149) (usable_most (product (mag x) u) f)
-together_exact None u t e f = t e
+together_exact (Stated x) u t e f = nearest_exact (mag x * u) (2 ^ 149) (pow_pos 149) (usable_most (product (mag x) u) f)
+together_exact NotStated u t e f = t e
 
 exposed_above : (said : Said) (w : Units) → Told w → AbovePaper (exposed said w)
 unfolding exposed
