@@ -78,34 +78,26 @@ fn any_near(samples: &[f32], from: usize, n: usize) -> bool
     found
 }
 
-// The first of n pixels that is too bright, the first of them from sample `from` on. Where no sample is near to it, no pixel is looked at.
-fn bright_in(samples: &[f32], from: usize, n: usize) -> Option<usize>
-    requires { from + 3 * n ≤ length samples.now }
-    ensures { FirstOf samples.now from n result }
-{
-    if !any_near(samples, from, 3 * n) {
-        return None;
-    }
-    for k in 0..n {
-        if pixel::is_too_bright(pixel_at(samples, from + 3 * k)) {
-            return Some(k);
-        }
-    }
-    None
-}
-
-// The first pixel, row by row, that is too bright.
+// The first pixel, row by row, that is too bright: the nested loops that RULES 12.2 lays down, left by their label.
+// Where no sample of a row is near to it, none of its pixels is looked at.
 pub fn first_bright(samples: &[f32], width: usize, height: usize) -> Option<usize>
     requires { 3 * (width * height) ≤ length samples.now }
     ensures { FirstOf samples.now 0 (width * height) result }
 {
-    for row in 0..height {
+    let mut found = None;
+    'rows: for row in 0..height {
         let at = width * row;
-        if let Some(column) = bright_in(samples, 3 * at, width) {
-            return Some(at + column);
+        if !any_near(samples, 3 * at, 3 * width) {
+            continue;
+        }
+        for column in 0..width {
+            if pixel::is_too_bright(pixel_at(samples, 3 * at + 3 * column)) {
+                found = Some(at + column);
+                break 'rows;
+            }
         }
     }
-    None
+    found
 }
 
 // A pixel's four bytes from a place on.
