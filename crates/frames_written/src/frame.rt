@@ -1,8 +1,7 @@
-// A frame, whatever its pixels are lent as: its length and its bytes.
+// A frame, whatever its pixels are lent as: its length and its bytes. Width and height stay two parameters, as in the calls for C.
 ghost use Rattle.std.specs.Prelude.{◌≡◌, ℕ, ◌+◌, ◌*◌, ◌<◌, ◌≤◌, List, length, leb};
 ghost use Rattle.steps.specs.Place.{spread};
-ghost use Rattle.rows_written.specs.Row.{worst_row};
-ghost use Rattle.rows_written.specs.Row.{written_row};
+ghost use Rattle.rows_written.specs.Row.{worst_row, written_row};
 ghost use Rattle.frames_written.specs.Frame.{rows_by, frame_by, worst_of};
 ghost use Rattle.frames_written.specs.Inner.{RowOf, Kept};
 

@@ -1,4 +1,5 @@
 // One channel as it is written: its length and its bytes are loops over the same parts.
+// An output and the place in it stay two parameters, since nearly each call is for another place.
 ghost use Rattle.std.specs.Prelude.{◌≡◌, ℕ, ◌+◌, ◌*◌, ◌<◌, ◌≤◌, length, get_or};
 ghost use Rattle.steps.specs.Place.{spread};
 ghost use Rattle.channels_written.specs.Channel.{literals, code, channel};
