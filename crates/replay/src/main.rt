@@ -46,6 +46,7 @@ fn answer_chunk(
 }
 
 // Answers every line of the input, also a last one that has no line feed. An input that can't be read has ended.
+// Nothing says that an input ends, so its chunks are counted, up to a number that no run comes to.
 fn answer_all(input: &mut impl Read, room: &mut Room, out: &mut impl Write) -> fmt::Result {
     let mut line = Line::new();
     let mut chunk = [0u8; 65536];
