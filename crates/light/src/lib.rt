@@ -42,9 +42,9 @@ impl Light {
     }
 }
 
-// How many steps, or half steps, it is.
+// How many steps, or half steps by the document reading, the light is; 0 at the exponent byte 0.
 #[tactic(auto, using(crate::proofs::Laws::Light::top_none, crate::proofs::Laws::Light::top_some, crate::proofs::Laws::Light::count_few))]
-fn count(reading: Reading, q: Rgbe) -> usize
+pub fn count(reading: Reading, q: Rgbe) -> usize
     ensures value { result ≡ top_of reading q }
     ensures upper_bound { result < 512 }
 {
