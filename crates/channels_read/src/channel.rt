@@ -24,7 +24,7 @@ pub(crate) trait Counts {
         ensures { turn_of result store.new ≡ counted src.now channel (chan p done store.old) (rule src.now p done width) };
 }
 
-// Every fourth place of the store from the channel's own.
+// Every fourth place of the store from the channel's own. A `while`, since a count ends where its bytes do, and the next stands there.
 pub(crate) fn read<C: Counts>(
     src: &[u8],
     at: usize,

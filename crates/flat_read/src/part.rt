@@ -56,7 +56,7 @@ fn pixel<P: Pixels>(src: &[u8], p: usize, store: &mut [u8], ahead: Ahead) -> Res
     })
 }
 
-// The flat part that starts at byte start of the store.
+// The flat part that starts at byte start of the store. A `while`, since one pixel 1, 1, 1, n stands for many.
 pub(crate) fn read<P: Pixels>(
     src: &[u8],
     at: usize,
