@@ -17,6 +17,7 @@ use words::{axes, fields, lines, sizes};
 pub use written::{length, put_digits, write};
 
 // What a header says, how the rows under it lie, and how many bytes it takes.
+// The limits of its sizes are no ghost field: `head_in` of the specs, whose meaning stays, makes a Head of any bytes, also of refused ones.
 #[derive(Clone, Copy, Debug, PartialEq)]
 pub struct Head {
     pub width: usize,

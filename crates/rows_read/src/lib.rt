@@ -1,4 +1,5 @@
 // One row of the input, read into the row store.
+// The input and the place in it stay two parameters: the definitions speak of places in the whole input, and nearly each call goes on at another.
 #![tactic(auto)]
 
 mod kind;

@@ -25,7 +25,7 @@ fn nearest_whole(a: usize, b: usize) -> usize
     }
 }
 
-// The f32 nearest to a / b times 2^k: a is doubled until the quotient has 24 binary digits, which stand below the exponent field.
+// The f32 nearest to a / b times 2^k: a is doubled until the quotient has 24 binary digits, which stand below the exponent field. A `while`, since how often that is depends on a and b.
 pub fn nearest(a: usize, b: usize, k: u32) -> f32
     requires { (0 < a) × (a < b * 2 ^ 24) × (b ≤ 2 ^ 34) × (k ≤ 34) }
     ensures value { result ≡ of_units (nearest_units (a * 2 ^ (k + 149)) b) }
