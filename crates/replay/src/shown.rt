@@ -96,10 +96,12 @@ impl Display for Said {
                 .and_then(|head| head.colour)
                 .map(|colour| Kind(colour)),
         );
-        let exposure = OrNone(self.0.and_then(|head| match head.exposure {
-            Exposure::Stated(x) => Some(Digits(x)),
-            Exposure::NotStated => None,
-        }));
+        let exposure = OrNone(
+            self.0.and_then(|head| match head.exposure {
+                Exposure::Stated(x) => Some(Digits(x)),
+                Exposure::NotStated => None,
+            }),
+        );
         let axes = OrNone(self.0.map(|head| Axes(head.orientation)));
         write!(f, "{kind} {exposure} {axes}")
     }
