@@ -1,3 +1,2 @@
--- The bounds by which the program's sums and rows have room, and what its answers say of the window.
+-- The bounds by which the program's sums and rows have room.
 pub mod Room
-pub mod View

@@ -1,2 +1,1 @@
 -- What the program's own contracts cite.
-pub mod Inner

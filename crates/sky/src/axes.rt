@@ -1,83 +1,40 @@
 // The axes of a picture, in words.
-use crate::say;
-use steps::Reading;
+use std::fmt;
 use words::axes::Orientation;
 
-// One of two texts.
-fn say_one(rt: &impl Print, second: bool, a: &[u8], b: &[u8]) {
-    if second {
-        say::text(rt, b);
-    } else {
-        say::text(rt, a);
+// The two axes as the header names them.
+fn names(o: Orientation) -> (&'static str, &'static str) {
+    let x = if o.leftward { "-X" } else { "+X" };
+    let y = if o.upward { "+Y" } else { "-Y" };
+    if o.columns { (x, y) } else { (y, x) }
+}
+
+// As a field of a table.
+#[derive(Clone, Copy)]
+pub(crate) struct Axes(pub Orientation);
+
+impl fmt::Display for Axes {
+    fn fmt<W: fmt::Write>(&self, f: &mut fmt::Formatter<W>) -> fmt::Result {
+        let (first, second) = names(self.0);
+        write!(f, "{first}{second}")
     }
 }
 
-// The two axes as the header names them, with this between them.
-fn say_pair(rt: &impl Print, o: Orientation, between: &[u8]) {
-    if o.columns {
-        say_one(rt, o.leftward, b"+X", b"-X");
-        say::text(rt, between);
-        say_one(rt, o.upward, b"-Y", b"+Y");
-    } else {
-        say_one(rt, o.upward, b"-Y", b"+Y");
-        say::text(rt, between);
-        say_one(rt, o.leftward, b"+X", b"-X");
-    }
-}
+// With where the stored rows start, and their pixels.
+#[derive(Clone, Copy)]
+pub(crate) struct Order(pub Orientation);
 
-// Where the stored rows start, and their pixels.
-fn say_order(rt: &impl Print, o: Orientation) {
-    if o.columns {
-        say_one(
-            rt,
-            o.leftward,
-            b": columns from the left",
-            b": columns from the right",
-        );
-        say_one(
-            rt,
-            o.upward,
-            b", pixels from the top\n",
-            b", pixels from the bottom\n",
-        );
-    } else {
-        say_one(
-            rt,
-            o.upward,
-            b": rows from the top",
-            b": rows from the bottom",
-        );
-        say_one(
-            rt,
-            o.leftward,
-            b", pixels from the left\n",
-            b", pixels from the right\n",
-        );
-    }
-}
-
-// The orientation, in a line.
-pub(crate) fn say_line(rt: &impl Print, reading: Reading, o: Orientation) {
-    say::text(rt, b"  orientation      ");
-    match reading {
-        Reading::Document => {
-            say_pair(rt, o, b" ");
-            say_order(rt, o);
+impl fmt::Display for Order {
+    fn fmt<W: fmt::Write>(&self, f: &mut fmt::Formatter<W>) -> fmt::Result {
+        let Order(o) = *self;
+        let (first, second) = names(o);
+        let x = if o.leftward { "right" } else { "left" };
+        let y = if o.upward { "bottom" } else { "top" };
+        write!(f, "{first} {second}: ")?;
+        if o.columns {
+            write!(f, "columns from the {x}, pixels from the {y}")
+        } else {
+            write!(f, "rows from the {y}, pixels from the {x}")
         }
-        Reading::Crate => {
-            say::text(
-                rt,
-                b"not told with --crate: rows are read from the top, pixels from the left\n",
-            );
-        }
-    }
-}
-
-// The orientation, in a field of a table; a dash with --crate.
-pub(crate) fn say_field(rt: &impl Print, reading: Reading, o: Orientation) {
-    say::text(rt, b"\t");
-    match reading {
-        Reading::Document => say_pair(rt, o, b""),
-        Reading::Crate => say::text(rt, b"-"),
     }
 }

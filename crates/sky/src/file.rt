@@ -1,224 +1,215 @@
 // A file that is read by a window: 2 MiB of it are held, and a header or a row is looked for in the 1 MiB from its start on.
 // What is read or refused in such a part is read or refused alike in the whole file: `header_of_file`, `refusal_of_file` and `reading_row_of_file`, in the laws of `window`.
-ghost use Rattle.std.specs.Prelude.{◌≡◌, ◌*◌, ◌≤◌, length};
-ghost use Rattle.window.specs.Header.{HeadWithin};
-ghost use Rattle.window.specs.Row.{RowWithin};
-ghost use Rattle.sky.specs.Inner.{Held, Started, Stepped};
+ghost use Rattle.std.specs.Prelude.{◌≤◌, length};
 
-use crate::outcome::Outcome;
-use crate::{fill, flaw};
+use crate::flaw;
+use crate::rows::Row;
+use crate::stop::Stop;
+use crate::system::Trouble;
 use header::Head;
+use places::Layout;
 use std::io::{Read, Seek, SeekFrom};
-use steps::refusal::Refusal;
-use steps::{Reading, refusal};
-use window::{HeadPart, RowPart};
+use steps::Reading;
+use steps::refusal::{Reason, Refusal};
 
-// What the window holds: the next byte to read, the end of its bytes, whether the file ends there, the number of a read that failed or 0, and how many bytes of the file lie before it.
+// A header that says a width, and its sizes are within the limits; it lies in the window.
 #[derive(Clone, Copy)]
-pub(crate) struct View {
-    pub at: usize,
-    pub end: usize,
-    pub over: bool,
-    pub error: i32,
-    pub before: usize,
+pub(crate) struct Sizes {
+    pub head: Head,
+    ghost within: { (head.width ≤ 65535) × (head.height ≤ 65535) × (head.taken ≤ 2097152) },
 }
 
-// The window moved on, so that it starts at the next byte.
-fn refill(input: &mut impl Read, bytes: &mut [u8; 2097152], view: View) -> View
-    requires { Held view }
-    ensures { Held result }
-{
-    window::slide(bytes, view.at, view.end);
-    let moved = View {
-        at: 0,
-        end: view.end - view.at,
-        over: view.over,
-        error: view.error,
-        before: view.before.wrapping_add(view.at),
-    };
-    fill::fill(input, bytes, moved)
-}
-
-// At least 1 MiB from the next byte on, or the rest of the file.
-fn ahead(input: &mut impl Read, bytes: &mut [u8; 2097152], view: View) -> View
-    requires { Held view }
-    ensures { Held result }
-{
-    if view.over || 1048576 <= view.end - view.at {
-        return view;
+impl Sizes {
+    // How the picture is stored: the rows of the file are its rows, or its columns where X is named first.
+    fn layout(&self) -> Layout
+        ensures { (result.width ≤ 65535) × (result.height ≤ 65535) }
+    {
+        Layout {
+            orientation: self.head.orientation,
+            width: self.head.width,
+            height: self.head.height,
+        }
     }
-    refill(input, bytes, view)
-}
 
-// Where the part ends that is looked at: 1 MiB on, or with the bytes that are held.
-fn part_end(view: View) -> usize
-    requires { view.at ≤ view.end }
-    ensures { (view.at ≤ result) × (result ≤ view.end) }
-{
-    view.at + steps::least(1048576, view.end - view.at)
-}
-
-// Whether the file goes on after a part that ends there.
-fn goes_on(view: View, end: usize) -> bool {
-    if view.over {
-        return end < view.end;
+    // How many pixels a stored row has.
+    pub(crate) fn long(&self) -> usize
+        ensures { result ≤ 65535 }
+    {
+        self.layout().long()
     }
-    true
-}
 
-// The same bytes held, with the next byte at another place.
-fn moved_to(view: View, at: usize) -> View
-    ensures { (result.at ≡ at) × (result.end ≡ view.end) }
-{
-    View {
-        at,
-        end: view.end,
-        over: view.over,
-        error: view.error,
-        before: view.before,
+    // How many rows are stored.
+    pub(crate) fn count(&self) -> usize
+        ensures { result ≤ 65535 }
+    {
+        self.layout().count()
     }
 }
 
-// What opening a picture answers: its sizes and the window at its first row, or how it ends.
-#[derive(Clone, Copy)]
-pub(crate) enum Start {
-    Sizes(Head, View),
-    Ended(Outcome),
-}
-
-// Where the rows begin; a width of 0 is refusal 7.
-fn start_at(head: Head, view: View) -> Start
-    requires { (head.width ≤ 65535) × (head.height ≤ 65535) × (head.taken ≤ view.end) × (view.end ≤ 2097152) }
-    ensures { Started result }
-{
-    if head.width == 0 {
-        return Start::Ended(Outcome::Refused(Refusal {
-            number: refusal::NO_WIDTH,
-            place: 0,
-        }));
-    }
-    Start::Sizes(head, moved_to(view, head.taken))
-}
-
-// What the part that ends there says of the header.
-fn head_in(reading: Reading, bytes: &[u8], end: usize, more: bool) -> HeadPart
-    requires { end ≤ length bytes.now }
-    ensures { HeadWithin end result }
-{
-    window::read_header(reading, &bytes[..end], more)
-}
-
-// Before the first read.
-fn nothing() -> View
-    ensures { Held result }
-{
-    View {
-        at: 0,
-        end: 0,
-        over: false,
-        error: 0,
-        before: 0,
-    }
-}
-
-// Reads the header of a file, by a reading.
-pub(crate) fn open(reading: Reading, input: &mut impl Read, bytes: &mut [u8; 2097152]) -> Start
-    ensures { Started result }
-{
-    let view = fill::fill(input, bytes, nothing());
-    if view.error != 0 {
-        return Start::Ended(Outcome::Unreadable { error: view.error });
-    }
-    let end = part_end(view);
-    let answer = head_in(reading, bytes, end, goes_on(view, end));
-    match answer {
-        HeadPart::Read(head) => start_at(head, view),
-        HeadPart::Refused(r) => Start::Ended(flaw::refused(bytes, end, r)),
-        HeadPart::Long => Start::Ended(flaw::long(bytes, end)),
-    }
-}
-
-// What reading a row answers: the window at the next row, or how the rows end.
-#[derive(Clone, Copy)]
-pub(crate) enum Step {
-    Row(View),
-    Ended(Outcome),
-}
-
-// What the part that ends there says of the row from `at` on, which goes to the row store.
-fn row_in(
-    reading: Reading,
-    bytes: &[u8],
+// What is held of a file: the next byte to read, the end of the bytes, whether the file ends there, and how many bytes of it lie before them.
+#[derive(Drop)]
+pub(crate) struct Window<'a> {
+    bytes: &'a mut [u8; 2097152],
     at: usize,
     end: usize,
-    more: bool,
-    store: &mut [u8],
-    long: usize,
-) -> RowPart
-    requires { (at ≤ end) × (end ≤ length bytes.now) × (4 * long ≤ length store.old) × (long ≤ 65535) }
-    ensures { RowWithin end result }
-{
-    window::read_row(reading, &bytes[..end], more, at, store, long)
+    over: bool,
+    before: usize,
+    ghost held: { (at ≤ end) × (end ≤ 2097152) },
 }
 
-// Reads the row k into the row store.
-pub(crate) fn next_row(
-    reading: Reading,
-    input: &mut impl Read,
-    bytes: &mut [u8; 2097152],
-    store: &mut [u8; 262140],
-    long: usize,
-    k: usize,
-    view: View,
-) -> Step
-    requires held { Held view }
-    requires long_bound { long ≤ 65535 }
-    ensures { Stepped result }
-{
-    let v = ahead(input, bytes, view);
-    if v.error != 0 {
-        return Step::Ended(Outcome::Unreadable { error: v.error });
+impl<'a> Window<'a> {
+    // Nothing is held.
+    pub(crate) fn new(bytes: &'a mut [u8; 2097152]) -> Window<'a> {
+        Window {
+            bytes,
+            at: 0,
+            end: 0,
+            over: false,
+            before: 0,
+        }
     }
-    let end = part_end(v);
-    let answer = row_in(reading, bytes, v.at, end, goes_on(v, end), store, long);
-    match answer {
-        RowPart::Read { next } => Step::Row(moved_to(v, next)),
-        RowPart::Fault { number } => Step::Ended(Outcome::Refused(Refusal { number, place: k })),
-        RowPart::Long => Step::Ended(Outcome::LongRow { row: k }),
-    }
-}
 
-// How many bytes of the file were taken.
-pub(crate) fn taken(view: View) -> usize {
-    view.before.wrapping_add(view.at)
-}
-
-// How many bytes of the file come after them: it is read to its end.
-pub(crate) fn after(input: &mut impl Read, bytes: &mut [u8; 2097152], view: View) -> usize
-    requires { Held view }
-{
-    let mut n = view.end - view.at;
-    if view.over {
-        return n;
+    // What was held is let go.
+    fn clear(&mut self) {
+        self.at = 0;
+        self.end = 0;
+        self.over = false;
+        self.before = 0;
     }
-    let mut turns = u64::MAX;
-    while 0 < turns {
-        let got = fill::fill(input, bytes, nothing()).end;
-        if got == 0 {
+
+    // Reads once behind the bytes that are held. A read that fails ends the file.
+    fn read_some(&mut self, input: &mut impl Read) -> Result<(), Trouble> {
+        let end = self.end;
+        let bytes = &mut *self.bytes;
+        match input.read(&mut bytes[end..]) {
+            Ok(n) => {
+                self.end = end + n;
+                self.over = n == 0;
+                Ok(())
+            }
+            Err(error) => {
+                self.over = true;
+                Err(Trouble::from(error))
+            }
+        }
+    }
+
+    // Reads until the window is full or the file ends. A read brings one byte or more, so that the turns are enough.
+    fn fill(&mut self, input: &mut impl Read) -> Result<(), Trouble> {
+        for _ in 0..2097153 {
+            if self.over || self.end == 2097152 {
+                return Ok(());
+            }
+            self.read_some(input)?;
+        }
+        Ok(())
+    }
+
+    // The window moved on, so that it starts at the next byte.
+    fn refill(&mut self, input: &mut impl Read) -> Result<(), Trouble> {
+        let at = self.at;
+        let end = self.end;
+        let bytes = &mut *self.bytes;
+        window::slide(bytes, at, end);
+        self.before = self.before.wrapping_add(at);
+        self.at = 0;
+        self.end = end - at;
+        self.fill(input)
+    }
+
+    // At least 1 MiB from the next byte on, or the rest of the file.
+    fn ahead(&mut self, input: &mut impl Read) -> Result<(), Trouble> {
+        if self.over || 1048576 <= self.end - self.at {
+            return Ok(());
+        }
+        self.refill(input)
+    }
+
+    // The part that is looked at, which ends 1 MiB after the next byte or with the bytes that are held, and whether the file goes on after it.
+    fn part(&self) -> (&[u8], bool)
+        ensures { (self.now.at ≤ length result.0.now) × (length result.0.now ≤ self.now.end) }
+    {
+        let end = self.at + (self.end - self.at).min(1048576);
+        (&self.bytes[..end], !self.over || end < self.end)
+    }
+
+    // Reads the header of a file.
+    pub(crate) fn open(&mut self, reading: Reading, input: &mut impl Read) -> Result<Sizes, Stop> {
+        self.clear();
+        self.fill(input)?;
+        let (part, more) = self.part();
+        match window::read_header(reading, part, more) {
+            Some(Ok(head)) => self.start(head),
+            Some(Err(refusal)) => Err(flaw::refused(part, refusal)),
+            None => Err(flaw::long(part)),
+        }
+    }
+
+    // Moves to the first row; a width of 0 is refused.
+    fn start(&mut self, head: Head) -> Result<Sizes, Stop>
+        requires { (head.width ≤ 65535) × (head.height ≤ 65535) × (head.taken ≤ self.old.end) }
+    {
+        if head.width == 0 {
+            return Err(Stop::Refused(Refusal::from(Reason::NoWidth)));
+        }
+        self.at = head.taken;
+        Ok(Sizes { head })
+    }
+
+    // Reads the row k.
+    pub(crate) fn read_row(
+        &mut self,
+        reading: Reading,
+        input: &mut impl Read,
+        row: &mut Row,
+        k: usize,
+    ) -> Result<(), Stop> {
+        self.ahead(input)?;
+        let at = self.at;
+        let (part, more) = self.part();
+        match row.read(reading, part, more, at) {
+            Some(Ok(next)) => {
+                self.at = next;
+                Ok(())
+            }
+            Some(Err(reason)) => Err(Stop::Refused(Refusal { reason, place: k })),
+            None => Err(Stop::LongRow { row: k }),
+        }
+    }
+
+    // The first bytes that are held.
+    pub(crate) fn first(&self, n: usize) -> &[u8]
+        requires { n ≤ 2097152 }
+    {
+        &self.bytes[..n]
+    }
+
+    // How many bytes of the file were taken.
+    pub(crate) fn taken(&self) -> usize {
+        self.before.wrapping_add(self.at)
+    }
+
+    // How many bytes of the file come after them: it is read to its end, and where a read fails on from there.
+    pub(crate) fn after(&mut self, input: &mut impl Read) -> usize {
+        let mut n = self.end - self.at;
+        if self.over {
             return n;
         }
-        n = n.wrapping_add(got);
-        turns -= 1;
+        for _ in 0..u64::MAX {
+            self.clear();
+            let _ = self.fill(input);
+            if self.end == 0 {
+                return n;
+            }
+            n = n.wrapping_add(self.end);
+        }
+        n
     }
-    n
 }
 
 // Whether a file is over 4 MiB, so that progress is shown. One that has no length is not.
 pub(crate) fn is_large(input: &mut impl Seek) -> bool {
     let length = input.seek(SeekFrom::End(0));
     let _ = input.seek(SeekFrom::Start(0));
-    match length {
-        Ok(n) => 4194304 < n,
-        Err(_) => false,
-    }
+    length.is_ok_and(|n| 4194304 < n)
 }

@@ -1,102 +1,57 @@
 // What a person should know of a header that is refused, beside its number.
-ghost use Rattle.std.specs.Prelude.{◌≤◌, length};
-
 use crate::fault;
-use crate::outcome::Outcome;
-use steps::refusal;
-use steps::refusal::Refusal;
+use crate::stop::Stop;
+use steps::refusal::{Reason, Refusal};
 use words::fields::trim;
-use words::sizes::Size;
 use words::{lines, sizes};
 
 // Whether the first line is right but for a carriage return at its end.
 fn is_first_returned(line: &[u8]) -> bool {
-    if line == b"#?RADIANCE\r\n".as_slice() {
-        return true;
-    }
-    line == b"#?RGBE\r\n".as_slice()
+    matches!(line, b"#?RADIANCE\r\n" | b"#?RGBE\r\n")
 }
 
-// Whether, before an empty line, there is one of a carriage return alone.
+// Whether, before an empty line, there is one of a carriage return alone; the first line does not count.
 fn has_returned_line(bytes: &[u8]) -> bool {
-    let mut p = lines::past(bytes, 0, 10);
-    let mut turns = bytes.len();
-    while 0 < turns {
-        let end = lines::past(bytes, p, 10);
-        if &bytes[p..end] == b"\r\n".as_slice() {
-            return true;
-        }
-        if &bytes[p..end] == b"\n".as_slice() {
-            return false;
-        }
-        p = end;
-        turns -= 1;
-    }
-    false
-}
-
-// Whether a field has digits alone.
-fn is_digits(field: &[u8]) -> bool {
-    let mut i = 0;
-    while i < field.len() {
-        if field[i] < 48 || 57 < field[i] {
-            return false;
-        }
-        i += 1;
-    }
-    true
+    bytes
+        .split_inclusive(|x| *x == b'\n')
+        .skip(1)
+        .take_while(|line| *line != b"\n".as_slice())
+        .any(|line| line == b"\r\n".as_slice())
 }
 
 // Whether a field is a size of 2^64 or more.
 fn is_too_large(field: &[u8]) -> bool {
-    let size = sizes::size_of(field);
-    match size {
-        Size::Number(n) => false,
-        Size::NoNumber => field.len() != 0 && is_digits(field),
-    }
+    sizes::size_of(field).is_none() && !field.is_empty() && field.iter().all(|x| x.is_ascii_digit())
 }
 
 // Whether one of the sizes is 2^64 or more.
 fn has_large_size(bytes: &[u8]) -> bool {
-    let at = lines::lines_end(bytes, lines::past(bytes, 0, 10));
-    let a = lines::past(bytes, at, 32);
-    let b = lines::past(bytes, a, 32);
-    let c = lines::past(bytes, b, 32);
-    let d = lines::past(bytes, c, 10);
+    let at = lines::lines_end(bytes, lines::past(bytes, 0, b'\n'));
+    let a = lines::past(bytes, at, b' ');
+    let b = lines::past(bytes, a, b' ');
+    let c = lines::past(bytes, b, b' ');
+    let d = lines::past(bytes, c, b'\n');
     is_too_large(trim(&bytes[a..b])) || is_too_large(trim(&bytes[c..d]))
 }
 
-// How a header ends that is refused.
-fn refused_by(bytes: &[u8], r: Refusal) -> Outcome {
-    let first = lines::past(bytes, 0, 10);
-    if r.number == refusal::FIRST_LINE && is_first_returned(&bytes[..first]) {
-        return Outcome::Returns { number: r.number };
+// How a header ends that is refused, of which these bytes are looked at.
+pub(crate) fn refused(bytes: &[u8], refusal: Refusal) -> Stop {
+    let reason = refusal.reason;
+    let first = lines::past(bytes, 0, b'\n');
+    match reason {
+        Reason::FirstLine if is_first_returned(&bytes[..first]) => Stop::Returns(Some(reason)),
+        Reason::Axes if has_returned_line(bytes) => Stop::Returns(Some(reason)),
+        Reason::Size if has_large_size(bytes) => Stop::TooLarge,
+        Reason::UnknownFormat | Reason::Exposure => fault::refused(bytes, reason),
+        _ => Stop::Refused(refusal),
     }
-    if r.number == refusal::AXES && has_returned_line(bytes) {
-        return Outcome::Returns { number: r.number };
-    }
-    if r.number == refusal::SIZE && has_large_size(bytes) {
-        return Outcome::TooLarge;
-    }
-    if r.number == refusal::UNKNOWN_FORMAT || r.number == refusal::EXPOSURE {
-        return fault::refused(bytes, r.number);
-    }
-    Outcome::Refused(r)
-}
-
-// How a header ends that is refused, of which the first bytes are looked at.
-pub(crate) fn refused(bytes: &[u8], end: usize, r: Refusal) -> Outcome
-    requires { end ≤ length bytes.now }
-{
-    refused_by(&bytes[..end], r)
 }
 
 // How a header ends that goes on after the bytes that are looked at.
-pub(crate) fn long(bytes: &[u8], end: usize) -> Outcome
-    requires { end ≤ length bytes.now }
-{
-    if has_returned_line(&bytes[..end]) {
-        return Outcome::Returns { number: 0 };
+pub(crate) fn long(bytes: &[u8]) -> Stop {
+    if has_returned_line(bytes) {
+        Stop::Returns(None)
+    } else {
+        Stop::LongHeader
     }
-    Outcome::LongHeader
 }

@@ -1,33 +1,28 @@
 // What is said where nothing is written to OUT.
 use crate::say;
+use crate::stop::Refused;
 
 // Why OUT is left as it is, by the word of who looked.
-fn reason(rt: &impl Print, why: &[u8], folder: &[u8]) {
-    if why == b"file".as_slice() {
-        say::text(rt, b" is there already and is kept: --force replaces it\n");
-    } else if why == b"folder".as_slice() {
-        say::text(rt, b" is a folder: name a file in it\n");
-    } else if why == b"link".as_slice() {
-        say::text(
-            rt,
-            b" is a link and is kept: name the file that it leads to\n",
-        );
-    } else if why == b"other".as_slice() {
-        say::text(rt, b" is no plain file and is kept\n");
-    } else if why == b"nowhere".as_slice() {
-        say::text(rt, b" cannot be made: there is no folder ");
-        say::name(rt, folder);
-        say::text(rt, b"\n");
-    } else {
-        say::text(rt, b" cannot be replaced: the system does not allow it\n");
+fn reason(why: &[u8]) -> &'static str {
+    match why {
+        b"file" => " is there already and is kept: --force replaces it",
+        b"folder" => " is a folder: name a file in it",
+        b"link" => " is a link and is kept: name the file that it leads to",
+        b"other" => " is no plain file and is kept",
+        b"nowhere" => " cannot be made: there is no folder ",
+        _ => " cannot be replaced: the system does not allow it",
     }
 }
 
 // Says that nothing was copied, and why.
-pub(crate) fn tell(rt: &impl Print, name: &[u8], out: &[u8], why: &[u8], folder: &[u8]) -> bool {
-    say::name(rt, name);
-    say::text(rt, b"\n  refused          ");
+pub(crate) fn tell(rt: &impl Print, name: &[u8], out: &[u8], why: &[u8], folder: &[u8]) -> Refused {
+    say::heading(rt, name);
+    let _ = print!(rt; "  refused          ");
     say::name(rt, out);
-    reason(rt, why, folder);
-    false
+    let _ = print!(rt; "{}", reason(why));
+    if why == b"nowhere".as_slice() {
+        say::name(rt, folder);
+    }
+    let _ = println!(rt);
+    Refused
 }

@@ -1,123 +1,184 @@
-// A pixel's light, in words.
-ghost use Rattle.std.specs.Prelude.{◌≡◌, ◌^◌, ◌<◌, ◌≤◌, length};
+// Numbers in decimal, and a pixel's light.
+ghost use Rattle.std.specs.Prelude.{◌≤◌, ◌<◌};
 
-use crate::say;
 use decimal::leading::leading;
+use light::Light;
 use pixel::Rgbe;
+use std::fmt;
 use steps::Reading;
 
-// 2^j.
-fn power(j: usize) -> usize
-    requires { j ≤ 40 }
-    ensures value { result ≡ 2 ^ j }
-    ensures result_nonzero { (0 < result) × (result ≤ 2000000000000) }
-{
-    1 << j
-}
-
-// The first n of some digits.
-fn say_digits(rt: &impl Print, digits: &[u8], n: usize)
-    requires { n ≤ length digits.now }
-{
-    say::text(rt, &digits[..n]);
-}
-
 // The number n / 2^j, which has j decimals.
-pub(crate) fn say_ratio(rt: &impl Print, n: usize, j: usize)
-    requires { j ≤ 40 }
-{
-    let unit = power(j);
-    say::number(rt, n / unit);
-    if j == 0 {
-        return;
-    }
-    let mut digits = [0u8; 40];
-    decimal::put_decimals(n % unit, unit, j, &mut digits);
-    say::text(rt, b".");
-    say_digits(rt, &digits, j);
+#[derive(Clone, Copy)]
+pub(crate) struct Ratio {
+    n: usize,
+    j: usize,
+    ghost few: { j ≤ 40 },
 }
 
-// Light in decimal, exactly: m times 2^s times 2^-149, where that fits 64 bits and has at most 40 decimals.
-fn say_exact(rt: &impl Print, m: usize, s: usize)
-    requires { (m < 512) × (109 ≤ s) × (s ≤ 204) }
-{
-    if 149 <= s {
-        say::number(rt, m << (s - 149));
-        return;
+impl Ratio {
+    // The number m / 2^j with its least j, if that is at most 40.
+    fn reduced(m: usize, j: usize) -> Option<Ratio> {
+        let ratio = decimal::reduced(m, j);
+        if 40 < ratio.j {
+            return None;
+        }
+        Some(Ratio {
+            n: ratio.m,
+            j: ratio.j,
+        })
     }
-    let ratio = decimal::reduced(m, 149 - s);
-    say_ratio(rt, ratio.m, ratio.j);
 }
 
-// A power of ten.
-fn say_power(rt: &impl Print, more: usize, less: usize)
+impl fmt::Display for Ratio {
+    #[tactic(auto, using(crate::proofs::Laws::Room::power_bounds))]
+    fn fmt<W: fmt::Write>(&self, f: &mut fmt::Formatter<W>) -> fmt::Result {
+        let unit = 1usize << self.j;
+        write!(f, "{}", self.n / unit)?;
+        if self.j == 0 {
+            return Ok(());
+        }
+        let mut store = [0u8; 40];
+        let decimals = &mut store[..self.j];
+        decimal::put_decimals(self.n % unit, unit, decimals);
+        write!(f, ".")?;
+        for x in decimals.iter() {
+            write!(f, "{}", char::from(*x))?;
+        }
+        Ok(())
+    }
+}
+
+// The first nine digits of a number, of which the first stands before the point, and a power of ten: digits times 10^more over 10^less.
+#[derive(Clone, Copy)]
+pub(crate) struct Rounded {
+    digits: usize,
+    more: usize,
+    less: usize,
+    ghost few: { (more ≤ 112) × (less ≤ 149) },
+}
+
+impl Rounded {
+    // The number m / 2^j.
+    #[tactic(auto, using(decimal::proofs::Laws::Leading::short_fifths))]
+    fn small(m: usize, j: usize) -> Rounded
+        requires { (m < 16777216) × (j ≤ 149) }
+    {
+        let lead = leading(m, 5, j);
+        Rounded {
+            digits: lead.digits,
+            more: lead.more,
+            less: j,
+        }
+    }
+
+    // The number m times 2^k.
+    #[tactic(auto, using(decimal::proofs::Laws::Leading::short_doubles))]
+    fn large(m: usize, k: usize) -> Rounded
+        requires { (m < 16777216) × (k ≤ 118) }
+    {
+        let lead = leading(m, 2, k);
+        Rounded {
+            digits: lead.digits,
+            more: lead.more,
+            less: 0,
+        }
+    }
+}
+
+impl fmt::Display for Rounded {
+    fn fmt<W: fmt::Write>(&self, f: &mut fmt::Formatter<W>) -> fmt::Result {
+        let power = power_of(self.more + 8, self.less);
+        write!(
+            f,
+            "{}.{:08}e{power}",
+            self.digits / 100000000,
+            self.digits % 100000000
+        )
+    }
+}
+
+// The difference of two small numbers.
+fn power_of(more: usize, less: usize) -> isize
     requires { (more ≤ 1000) × (less ≤ 1000) }
 {
-    say::text(rt, b"e");
-    if more < less {
-        say::text(rt, b"-");
-        say::number(rt, less - more);
+    more as isize - less as isize
+}
+
+// A number in decimal: exactly, or where that takes more digits than are read, its first nine and a power of ten.
+#[derive(Clone, Copy)]
+pub(crate) enum Decimal {
+    Whole(usize),
+    Ratio(Ratio),
+    Rounded(Rounded),
+}
+
+impl fmt::Display for Decimal {
+    fn fmt<W: fmt::Write>(&self, f: &mut fmt::Formatter<W>) -> fmt::Result {
+        match self {
+            Decimal::Whole(n) => write!(f, "{n}"),
+            Decimal::Ratio(ratio) => write!(f, "{ratio}"),
+            Decimal::Rounded(rounded) => write!(f, "{rounded}"),
+        }
+    }
+}
+
+impl Decimal {
+    // The number m / 2^j: exactly where it has at most 40 decimals.
+    fn fraction(m: usize, j: usize) -> Decimal
+        requires { (m < 16777216) × (j ≤ 149) }
+    {
+        match Ratio::reduced(m, j) {
+            Some(ratio) => Decimal::Ratio(ratio),
+            None => Decimal::Rounded(Rounded::small(m, j)),
+        }
+    }
+}
+
+// A pixel's light, exactly where it fits 64 bits and a step has at most 40 decimals; none where it is black.
+pub(crate) fn light(reading: Reading, q: Rgbe) -> Option<Decimal> {
+    let Light { count, shift, .. } = Light::of(reading, q);
+    if count == 0 {
+        return None;
+    }
+    Some(if 204 < shift {
+        Decimal::Rounded(Rounded::large(count, shift - 149))
+    } else if 149 <= shift {
+        Decimal::Whole(count << (shift - 149))
+    } else if 109 <= shift {
+        Decimal::fraction(count, 149 - shift)
     } else {
-        say::number(rt, more - less);
-    }
+        Decimal::Rounded(Rounded::small(count, 149 - shift))
+    })
 }
 
-// The nine digits, of which the first stands before the point, and a power of ten: digits times 10^more over 10^j.
-pub(crate) fn say_lead(rt: &impl Print, digits: usize, more: usize, j: usize)
-    requires { (more ≤ 112) × (j ≤ 149) }
+// The whole number of units that the bits of a float stand for, before they are shifted.
+fn units_of(bits: u32) -> usize
+    ensures { result < 16777216 }
 {
-    let mut decimals = [0u8; 8];
-    decimal::put_decimals(digits % 100000000, 100000000, 8, &mut decimals);
-    say::number(rt, digits / 100000000);
-    say::text(rt, b".");
-    say::text(rt, &decimals);
-    say_power(rt, more + 8, j);
+    let low = (bits % 8388608) as usize;
+    if bits / 8388608 % 256 == 0 {
+        return low;
+    }
+    low + 8388608
 }
 
-// Light in decimal, m times 2^s times 2^-149: exactly, or where that takes more digits than are read, its first nine and a power of ten.
-fn say_decimal(rt: &impl Print, m: usize, s: usize)
-    requires { (m < 512) × (12 ≤ s) × (s ≤ 267) }
+// By how many places the units are shifted; a unit is 2^-149.
+fn shift_of(bits: u32) -> usize
+    ensures { result ≤ 254 }
 {
-    if s < 109 {
-        let lead = leading(m, 5, 149 - s);
-        say_lead(rt, lead.digits, lead.more, 149 - s);
-        return;
-    }
-    if 204 < s {
-        let lead = leading(m, 2, s - 149);
-        say_lead(rt, lead.digits, lead.more, 0);
-        return;
-    }
-    say_exact(rt, m, s);
+    (bits / 8388608 % 256).saturating_sub(1) as usize
 }
 
-// A pixel's light in decimal; a dash where it is black.
-pub(crate) fn say_brief(rt: &impl Print, reading: Reading, q: Rgbe) {
-    if light::is_black(reading, q) {
-        say::text(rt, b"-");
-        return;
-    }
-    say_decimal(rt, light::count(reading, q), light::shift(reading, q.e));
-}
-
-// A pixel's light, in decimal and as a whole number times a power of two.
-pub(crate) fn say_light(rt: &impl Print, reading: Reading, label: &[u8], q: Rgbe) {
-    say::text(rt, label);
-    if light::is_black(reading, q) {
-        say::text(rt, b"none, every pixel is black\n");
-        return;
-    }
-    let m = light::count(reading, q);
-    let s = light::shift(reading, q.e);
-    say_decimal(rt, m, s);
-    say::text(rt, b" = ");
-    say::number(rt, m);
-    say::text(rt, b" x 2^");
-    if s < 149 {
-        say::text(rt, b"-");
-        say::number(rt, 149 - s);
+// A float above 0 in decimal: exactly where it fits 64 bits or has at most 40 decimals.
+pub(crate) fn float(x: f32) -> Decimal {
+    let bits = if x.is_nan() { 0 } else { x.to_bits() };
+    let m = units_of(bits);
+    let s = shift_of(bits);
+    if 189 < s {
+        Decimal::Rounded(Rounded::large(m, s - 149))
+    } else if 149 <= s {
+        Decimal::Whole(m << (s - 149))
     } else {
-        say::number(rt, s - 149);
+        Decimal::fraction(m, 149 - s)
     }
-    say::text(rt, b"\n");
 }

@@ -1,37 +1,46 @@
 // What a person asks of a sky file: its sizes, its light, a chart of it, or a copy that is written anew.
 #![tactic(auto)]
 
-mod anew;
 mod ask;
 mod axes;
 mod brief;
 mod copy;
+mod desk;
 mod fault;
 mod file;
-mod fill;
 mod flaw;
+mod help;
 mod info;
 mod kept;
 mod lit;
-mod name;
-mod outcome;
 mod pen;
+mod picture;
 mod rows;
 mod said;
 mod say;
+mod stop;
 mod stops;
-mod stored;
 mod system;
+mod word;
+
+use desk::Desk;
+use file::Window;
+use pen::Pen;
+use rows::Row;
 
 // What the program holds: a window of 2 MiB on the file, the longest row, and room for what is written.
 fn main(rt: HostRuntime) {
     let mut bytes = [0u8; 2097152];
     let mut store = [0u8; 262140];
     let mut room = [0u8; 524288];
-    let ok = ask::answer(&rt, &mut bytes, &mut store, &mut room);
-    if ok {
-        say::text(&rt, b"ok\n");
-    } else {
-        say::text(&rt, b"refused\n");
-    }
+    let mut desk = Desk {
+        window: Window::new(&mut bytes),
+        row: Row::new(&mut store),
+        pen: Pen::new(&mut room),
+    };
+    let last = match ask::answer(&rt, &mut desk) {
+        Ok(()) => "ok",
+        Err(_) => "refused",
+    };
+    let _ = println!(rt; "{last}");
 }

@@ -1,69 +1,75 @@
 // What is written of a file: rows are gathered in a room, which is written out when it is half full.
-ghost use Rattle.std.specs.Prelude.{◌≤◌, length};
+ghost use Rattle.std.specs.Prelude.{◌≤◌};
 
+use crate::rows::Row;
+use crate::stop::Stop;
+use std::fs::OpenFile;
 use std::io::Write;
 
 // How many bytes stand in the room and are not yet written, how many are written, and whether a write failed.
-#[derive(Clone, Copy)]
-pub(crate) struct Pen {
-    pub put: usize,
+#[derive(Drop)]
+pub(crate) struct Pen<'a> {
+    room: &'a mut [u8; 524288],
+    put: usize,
     pub written: usize,
-    pub failed: bool,
+    failed: bool,
+    ghost half: { put ≤ 262144 },
 }
 
-// Writes out what stands in the room.
-pub(crate) fn flush(to: &mut impl Write, room: &[u8], pen: Pen) -> Pen
-    requires { pen.put ≤ length room.now }
-    ensures { result.put ≤ 262144 }
-{
-    let n = pen.put;
-    let ok = to.write_all(&room[..n]).is_ok();
-    Pen {
-        put: 0,
-        written: pen.written.wrapping_add(n),
-        failed: pen.failed || !ok,
+impl<'a> Pen<'a> {
+    // Nothing is written.
+    pub(crate) fn new(room: &'a mut [u8; 524288]) -> Pen<'a> {
+        Pen {
+            room,
+            put: 0,
+            written: 0,
+            failed: false,
+        }
     }
-}
 
-// Puts the row of the store into the room, and answers the place after it.
-fn write_row(store: &[u8; 262140], long: usize, room: &mut [u8; 524288], put: usize) -> usize
-    requires { (long ≤ 65535) × (put ≤ 262144) }
-    ensures { result ≤ 524288 }
-{
-    rows_written::write_row(store, 0, long, room, put)
-}
-
-// Writes the row of the store: the room is written out when it is half full.
-pub(crate) fn put_row(
-    to: &mut impl Write,
-    store: &[u8; 262140],
-    long: usize,
-    room: &mut [u8; 524288],
-    pen: Pen,
-) -> Pen
-    requires { (long ≤ 65535) × (pen.put ≤ 262144) }
-    ensures { result.put ≤ 262144 }
-{
-    let full = Pen {
-        put: write_row(store, long, room, pen.put),
-        written: pen.written,
-        failed: pen.failed,
-    };
-    if full.put <= 262144 {
-        return full;
+    // Writes the header of a new file. That a write fails is told with the next row.
+    pub(crate) fn begin(&mut self, to: &mut impl Write, header: &[u8]) {
+        self.failed = to.write_all(header).is_err();
+        self.put = 0;
+        self.written = header.len();
     }
-    flush(to, room, full)
-}
 
-// Writes the header as it stands at the start of the bytes.
-pub(crate) fn keep_header(to: &mut impl Write, bytes: &[u8], taken: usize) -> Pen
-    requires { taken ≤ length bytes.now }
-    ensures { result.put ≤ 262144 }
-{
-    let ok = to.write_all(&bytes[..taken]).is_ok();
-    Pen {
-        put: 0,
-        written: taken,
-        failed: !ok,
+    // Writes out the first n bytes of the room.
+    fn flush(&mut self, to: &mut impl Write, n: usize)
+        requires { n ≤ 524288 }
+    {
+        if to.write_all(&self.room[..n]).is_err() {
+            self.failed = true;
+        }
+        self.put = 0;
+        self.written = self.written.wrapping_add(n);
+    }
+
+    // Writes a row: the room is written out when it is more than half full.
+    pub(crate) fn put_row(&mut self, to: &mut impl Write, row: &Row) -> Result<(), Stop> {
+        let end = row.write(self.room, self.put);
+        if end <= 262144 {
+            self.put = end;
+        } else {
+            self.flush(to, end);
+        }
+        self.whole()
+    }
+
+    // Writes out what is left of a whole file, down to the disk.
+    pub(crate) fn finish(&mut self, to: &mut (impl Write + OpenFile)) -> Result<(), Stop> {
+        let rest = self.put;
+        self.flush(to, rest);
+        self.whole()?;
+        to.sync_all().map_err(|_| Stop::Unwritten)
+    }
+
+    // Whether every write was done.
+    fn whole(&self) -> Result<(), Stop> {
+        if self.failed {
+            Err(Stop::Unwritten)
+        } else {
+            Ok(())
+        }
     }
 }

@@ -1,116 +1,117 @@
-// The rows of a picture, read one by one.
-ghost use Rattle.std.specs.Prelude.{◌+◌, ◌≤◌};
-ghost use Rattle.sky.specs.Inner.{Held, Ended};
+// The rows of a picture, one by one, and what they say together.
+ghost use Rattle.std.specs.Prelude.{◌≡◌, ◌*◌, ◌+◌, ◌≤◌, length};
+ghost use Rattle.window.specs.Row.{RowWithin};
 
-use crate::file::{Step, View};
-use crate::outcome::Outcome;
+use crate::picture::Picture;
+use crate::say::Progress;
+use crate::stop::Stop;
 use crate::system::System;
-use crate::{file, say, stored};
-use header::Head;
 use std::io::Read;
-use steps::Reading;
+use steps::{Reading, Taken};
 use survey::Totals;
 
-// What the rows say, and how they end.
+// The store of a row, and how many pixels it has.
+#[derive(Drop)]
+pub(crate) struct Row<'a> {
+    store: &'a mut [u8; 262140],
+    long: usize,
+    ghost short: { long ≤ 65535 },
+}
+
+impl<'a> Row<'a> {
+    // No pixels.
+    pub(crate) fn new(store: &'a mut [u8; 262140]) -> Row<'a> {
+        Row { store, long: 0 }
+    }
+
+    // A row of black pixels.
+    pub(crate) fn blank(&mut self, long: usize)
+        requires { long ≤ 65535 }
+    {
+        self.long = long;
+        let store = &mut *self.store;
+        store.fill(0);
+    }
+
+    // Reads it in a part of a file.
+    pub(crate) fn read(
+        &mut self,
+        reading: Reading,
+        part: &[u8],
+        more: bool,
+        at: usize,
+    ) -> Option<Taken>
+        ensures { at ≤ length part.now → RowWithin (length part.now) result }
+    {
+        let long = self.long;
+        let store = &mut *self.store;
+        window::read_row(reading, part, more, at, store, long)
+    }
+
+    // How many bytes it is written in.
+    #[tactic(auto, using(crate::proofs::Laws::Room::row_small))]
+    fn length(&self) -> usize
+        ensures { result ≤ 262144 }
+    {
+        rows_written::row_length(self.store, 0, self.long)
+    }
+
+    // Writes it from a place on, and answers the place after it.
+    #[tactic(auto, using(crate::proofs::Laws::Room::row_half))]
+    pub(crate) fn write(&self, room: &mut [u8; 524288], put: usize) -> usize
+        requires { put ≤ 262144 }
+        ensures { result ≤ 524288 }
+    {
+        rows_written::write_row(self.store, 0, self.long, room, put)
+    }
+
+    // Its pixels, four bytes each.
+    pub(crate) fn pixels(&self) -> &[u8]
+        ensures { length result.now ≡ 4 * self.now.long }
+    {
+        &self.store[..4 * self.long]
+    }
+}
+
+// What the rows say, and how many bytes they are written in.
 #[derive(Clone, Copy)]
 pub(crate) struct Found {
     pub totals: Totals,
     pub length: usize,
-    pub outcome: Outcome,
 }
 
-// How many bytes the row in the store is written in.
-fn row_length(store: &[u8; 262140], long: usize) -> usize
-    requires { long ≤ 65535 }
-    ensures { result ≤ 262144 }
-{
-    rows_written::row_length(store, 0, long)
-}
+impl Found {
+    // Before the first row.
+    fn new() -> Found
+        ensures black_bound { (result.totals.black ≤ 0) × (result.totals.masked ≤ 0) × (result.length ≤ 0) }
+    {
+        Found {
+            totals: Totals::default(),
+            length: 0,
+        }
+    }
 
-// What the row in the store adds to what was found; the window stands behind it.
-fn with_row(reading: Reading, store: &[u8; 262140], long: usize, view: View, found: Found) -> Found
-    requires held { Held view }
-    requires long_bound { (long ≤ 65535) × (found.totals.black ≤ 4294967296) × (found.totals.masked ≤ 4294967296) × (found.length ≤ 17179869184) }
-    ensures ended { Ended result.outcome }
-    ensures black_bound { (result.totals.black ≤ found.totals.black + 65535) × (result.totals.masked ≤ found.totals.masked + 65535) × (result.length ≤ found.length + 262144) }
-{
-    let totals = found.totals;
-    Found {
-        totals: survey::row(reading, store, long, totals),
-        length: found.length + row_length(store, long),
-        outcome: Outcome::Whole(view),
+    // What a row adds to it.
+    fn add(&mut self, reading: Reading, row: &Row)
+        requires { (self.old.totals.black ≤ 4294967296) × (self.old.totals.masked ≤ 4294967296) × (self.old.length ≤ 17179869184) }
+        ensures { (self.new.totals.black ≤ self.old.totals.black + 65535) × (self.new.totals.masked ≤ self.old.totals.masked + 65535) × (self.new.length ≤ self.old.length + 262144) }
+    {
+        self.totals = self.totals.row(reading, row.pixels());
+        self.length += row.length();
     }
 }
 
-// Reads the row k.
-fn read_row(
-    reading: Reading,
-    input: &mut impl Read,
-    bytes: &mut [u8; 2097152],
-    store: &mut [u8; 262140],
-    long: usize,
-    k: usize,
-    view: View,
-    found: Found,
-) -> Found
-    requires held { Held view }
-    requires long_bound { (long ≤ 65535) × (found.totals.black ≤ 4294967296) × (found.totals.masked ≤ 4294967296) × (found.length ≤ 17179869184) }
-    ensures ended { Ended result.outcome }
-    ensures black_bound { (result.totals.black ≤ found.totals.black + 65535) × (result.totals.masked ≤ found.totals.masked + 65535) × (result.length ≤ found.length + 262144) }
-{
-    let totals = found.totals;
-    let step = file::next_row(reading, input, bytes, store, long, k, view);
-    match step {
-        Step::Row(next) => with_row(reading, store, long, next, found),
-        Step::Ended(outcome) => Found {
-            totals,
-            length: found.length,
-            outcome,
-        },
+// Reads the rows one by one, and answers what they say.
+pub(crate) fn read_rows<I: Read, R: System>(
+    picture: &mut Picture<I>,
+    progress: &Progress<R>,
+) -> Result<Found, Stop> {
+    let count = picture.sizes.count();
+    let mut found = Found::new();
+    for k in 0..count {
+        picture.next_row(k)?;
+        found.add(picture.reading, picture.row);
+        progress.step(k, count);
     }
-}
-
-// Before the first row.
-fn nothing(view: View) -> Found
-    requires { Held view }
-    ensures ended { Ended result.outcome }
-    ensures black_bound { (result.totals.black ≤ 0) × (result.totals.masked ≤ 0) × (result.length ≤ 0) }
-{
-    Found {
-        totals: survey::nothing(),
-        length: 0,
-        outcome: Outcome::Whole(view),
-    }
-}
-
-// Reads the rows one by one.
-pub(crate) fn read_rows(
-    rt: &impl System,
-    reading: Reading,
-    input: &mut impl Read,
-    bytes: &mut [u8; 2097152],
-    store: &mut [u8; 262140],
-    head: Head,
-    view: View,
-    shown: bool,
-) -> Found
-    requires held { Held view }
-    requires width_bound { (head.width ≤ 65535) × (head.height ≤ 65535) }
-    ensures ended { Ended result.outcome }
-    ensures length_bound { result.length ≤ 17179869184 }
-{
-    let long = stored::long(head);
-    let count = stored::count(head);
-    let mut found = nothing(view);
-    let mut k = 0;
-    while k < count {
-        let outcome = found.outcome;
-        let Outcome::Whole(v) = outcome else {
-            return found;
-        };
-        found = read_row(reading, input, bytes, store, long, k, v, found);
-        say::progress(rt, shown, k, count);
-        k += 1;
-    }
-    found
+    Ok(found)
 }

@@ -1,31 +1,9 @@
 // What the program asks of the system: its words, files by name, and the two streams that it writes to.
-ghost use Rattle.std.specs.Prelude.{◌≤◌, length};
-
 use std::env::{Env, FillError};
 use std::fs::{File, Files, OpenOptions};
-use std::io;
-use std::io::{Error, Stderr};
-
-// The system's numbers of errors that are told in words.
-pub(crate) const EPERM: i32 = 1;
-
-pub(crate) const ENOENT: i32 = 2;
-
-pub(crate) const EACCES: i32 = 13;
-
-pub(crate) const ENOTDIR: i32 = 20;
-
-pub(crate) const EISDIR: i32 = 21;
-
-pub(crate) const ENOSPC: i32 = 28;
-
-pub(crate) const ENAMETOOLONG: i32 = 36;
-
-// The number of an error that the system gave none.
-const UNKNOWN: i32 = -1;
-
-// The number of a name that is no text: files are named in UTF-8.
-pub(crate) const NO_TEXT: i32 = -2;
+use std::io::{ErrorKind, Stderr};
+use std::str::Utf8Error;
+use std::{fmt, io};
 
 // The words that the program is started with, files by name, standard output, and standard error, on which bytes need not be text.
 pub(crate) trait System: Env + Files + Print {
@@ -38,50 +16,76 @@ impl System for HostRuntime {
     }
 }
 
-// The system's number of an error.
-pub(crate) fn number_of(error: Error) -> i32 {
-    error.raw_os_error().unwrap_or(UNKNOWN)
+// Why the system does not open, make or read a file.
+#[derive(Clone, Copy, Debug, PartialEq, Eq)]
+pub(crate) enum Trouble {
+    Missing,
+    NotAllowed,
+    Folder,
+    LongName,
+    DiskFull,
+    NoText,
+    Unknown,
+}
+
+impl From<io::Error> for Trouble {
+    fn from(error: io::Error) -> Trouble {
+        match error.kind() {
+            ErrorKind::NotFound => Trouble::Missing,
+            ErrorKind::PermissionDenied => Trouble::NotAllowed,
+            ErrorKind::IsADirectory | ErrorKind::NotADirectory => Trouble::Folder,
+            ErrorKind::InvalidFilename => Trouble::LongName,
+            ErrorKind::StorageFull => Trouble::DiskFull,
+            _ => Trouble::Unknown,
+        }
+    }
+}
+
+// Files are named in UTF-8.
+impl From<Utf8Error> for Trouble {
+    fn from(_error: Utf8Error) -> Trouble {
+        Trouble::NoText
+    }
+}
+
+impl fmt::Display for Trouble {
+    fn fmt<W: fmt::Write>(&self, f: &mut fmt::Formatter<W>) -> fmt::Result {
+        f.write_str(match self {
+            Trouble::Missing => "there is no such file or folder",
+            Trouble::NotAllowed => "it is not allowed",
+            Trouble::Folder => "it is a folder, or a file where a folder should be",
+            Trouble::LongName => "the name is too long",
+            Trouble::DiskFull => "the disk is full",
+            Trouble::NoText => "the name is not text in UTF-8",
+            Trouble::Unknown => "the system does not say why",
+        })
+    }
 }
 
 // How many words the program was started with, its own name among them.
 pub(crate) fn arg_count(rt: &impl Env) -> usize {
-    let mut start = [0u8; 1];
     for i in 0..usize::MAX {
-        if let Err(FillError::NotPresent) = rt.arg(i, &mut start) {
+        if let Err(FillError::NotPresent) = rt.arg(i, &mut [0u8; 1]) {
             return i;
         }
     }
     usize::MAX
 }
 
-// Puts word i at the start of the bytes and answers its length; 0 where it is missing or longer.
-pub(crate) fn arg(rt: &impl Env, i: usize, bytes: &mut [u8]) -> usize
-    ensures { result ≤ length bytes.new }
-{
-    match rt.arg(i, bytes) {
-        Ok(n) => n,
-        Err(_) => 0,
-    }
+// Opens a file for reading.
+pub(crate) fn open_read<R: Files>(rt: &R, name: &[u8]) -> Result<R::File, Trouble> {
+    let path = str::from_utf8(name)?;
+    Ok(File::open(rt, path)?)
 }
 
-// Opens a file for reading, or answers the number of the error.
-pub(crate) fn open_read<R: Files>(rt: &R, name: &[u8]) -> Result<R::File, i32> {
-    let Ok(path) = str::from_utf8(name) else {
-        return Err(NO_TEXT);
-    };
-    File::open(rt, path).map_err(number_of)
-}
-
-// Makes a file that is not yet there, for writing, or answers the number of the error.
-pub(crate) fn create<R: Files>(rt: &R, name: &[u8]) -> Result<R::File, i32> {
-    let Ok(path) = str::from_utf8(name) else {
-        return Err(NO_TEXT);
-    };
-    OpenOptions::new()
+// Makes a file that is not yet there, for writing.
+pub(crate) fn create<R: Files>(rt: &R, name: &[u8]) -> Result<R::File, Trouble> {
+    let path = str::from_utf8(name)?;
+    let file = OpenOptions::new()
         .write(true)
         .create_new(true)
-        .open(rt, path)
-        .map_err(number_of)
+        .open(rt, path)?;
+    Ok(file)
 }
 
 // Removes a file.

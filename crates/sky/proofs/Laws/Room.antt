@@ -1,15 +1,9 @@
--- How much a row, a power of two and a float can be.
-use Rattle.std.proofs.Common.{◌≡◌, ℕ, ◌+◌, ◌-◌, ◌*◌, ◌%◌, ◌^◌, ◌<◌, ◌≤◌, ◌&&◌, leb, List, length, take, refl, ◌∙◌, mod-lt, arith, length-take-le, pow_pos, pow_mono, shl_exact, leb-true}
+-- How much a row and a power of two can be.
+use Rattle.std.proofs.Common.{◌≡◌, ℕ, ◌+◌, ◌*◌, ◌%◌, ◌^◌, ◌<◌, ◌≤◌, ◌&&◌, leb, List, length, refl, ◌∙◌, mod-lt, arith, pow_pos, pow_mono, shl_exact, leb-true}
 use Rattle.steps.proofs.Laws.Turns.{by_test, and_right}
-use Rattle.decimal.specs.Leading.{Short}
-use Rattle.decimal.proofs.Laws.Leading.{short_fifths, short_doubles}
 use Rattle.rows_written.specs.Row.{written_row, worst_row}
 use Rattle.steps.specs.Width.{is_coded}
 use Rattle.rows_written.proofs.Laws.Worst.{row_worst}
-use Rattle.window.specs.Header.{HeadWithin}
-use Rattle.window.specs.Row.{RowWithin}
-use Rattle.window.specs.declared.head.HeadPart.{HeadPart}
-use Rattle.window.specs.declared.RowPart.{RowPart}
 
 -- ---- A row as it is written
 
@@ -43,30 +37,3 @@ power_bounds j h = rw (power_is j h) (pow_pos j, power_small j h)
 
 pub rest_less : (n unit : ℕ) → 0 < unit → n % unit < unit
 rest_less n unit h = mod-lt n h
-
--- ---- Light
-
-pub dim_short : (m s : ℕ) → m < 512 → 12 ≤ s → Short (m * 5 ^ (149 - s))
-dim_short m s h k = short_fifths m (149 - s) (omega arith) (omega arith)
-
-pub bright_short : (m s : ℕ) → m < 512 → s ≤ 267 → Short (m * 2 ^ (s - 149))
-bright_short m s h k = short_doubles m (s - 149) (omega arith) (omega arith)
-
--- ---- An exposure
-
-pub small_short : (m j : ℕ) → m < 16777216 → j ≤ 149 → Short (m * 5 ^ j)
-small_short m j h k = short_fifths m j h k
-
-pub large_short : (m k : ℕ) → m < 16777216 → k ≤ 105 → Short (m * 2 ^ k)
-large_short m k h l = short_doubles m k h (omega arith)
-
--- ---- A part of what is held
-
-pub first_part : (bytes : List ℕ) (first end : ℕ) → first ≤ end → end ≤ length bytes → first ≤ length (take end bytes)
-first_part bytes first end h k = rw (length-take-le end bytes k) h
-
-pub head_part : (r : HeadPart) (bytes : List ℕ) (end : ℕ) → HeadWithin (length (take end bytes)) r → end ≤ length bytes → HeadWithin end r
-head_part r bytes end h k = rw (length-take-le end bytes k) at h
-
-pub row_part : (r : RowPart) (bytes : List ℕ) (at end : ℕ) → (at ≤ length (take end bytes) → RowWithin (length (take end bytes)) r) → at ≤ end → end ≤ length bytes → RowWithin end r
-row_part r bytes at end h a k = (rw (length-take-le end bytes k) at h) a
