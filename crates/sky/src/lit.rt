@@ -170,6 +170,7 @@ fn shift_of(bits: u32) -> usize
 }
 
 // A float above 0 in decimal: exactly where it fits 64 bits or has at most 40 decimals.
+// It does not share the limits of `light`: what either prints stays as it was.
 pub(crate) fn float(x: f32) -> Decimal {
     let bits = if x.is_nan() { 0 } else { x.to_bits() };
     let m = units_of(bits);

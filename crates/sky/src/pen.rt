@@ -7,6 +7,7 @@ use std::fs::OpenFile;
 use std::io::Write;
 
 // How many bytes stand in the room and are not yet written, how many are written, and whether a write failed.
+// The last is kept beside them, and is no error at once: a first row at fault is told before a header that could not be written, as ever.
 #[derive(Drop)]
 pub(crate) struct Pen<'a> {
     room: &'a mut [u8; 524288],

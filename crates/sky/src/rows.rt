@@ -102,6 +102,7 @@ impl Found {
 }
 
 // Reads the rows one by one, and answers what they say.
+// This loop stands in `stops` and `copy` too: a closure or a trait for the step would have to say what holds after k rows, for the sums here, which takes more than the loop.
 pub(crate) fn read_rows<I: Read, R: System>(
     picture: &mut Picture<I>,
     progress: &Progress<R>,

@@ -4,6 +4,7 @@ ghost use Rattle.std.specs.Prelude.{◌<◌, ◌≤◌};
 use crate::system::System;
 
 // The name of a file, or a word that was not understood, in which a terminal finds nothing to act on; 4096 bytes of it at most.
+// Bytes, and no Display: a name need not be text.
 pub(crate) fn name(stream: &impl Print, name: &[u8]) {
     let mut shown = [0u8; 4096];
     let n = name.len().min(4096);
@@ -17,7 +18,7 @@ pub(crate) fn heading(rt: &impl Print, name: &[u8]) {
     let _ = println!(rt);
 }
 
-// A tab, and a number or a dash.
+// A tab, and a number or a dash. The digits are those that `table` proves, and so no Display.
 pub(crate) fn tab(rt: &impl Print, n: Option<usize>) {
     let Some(n) = n else {
         let _ = print!(rt; "\t-");

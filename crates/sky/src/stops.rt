@@ -62,7 +62,7 @@ fn say_chart(rt: &impl Print, counts: &[usize; 264], height: usize) {
     let _ = println!(rt; "  black pixels     {}", counts[0]);
 }
 
-// Reads a file, and shows its light.
+// Reads a file, and shows its light. `info` does the same with other rows and words: they are what would be passed, and the rest is three calls.
 fn tell_file<R: System>(
     rt: &R,
     reading: Reading,
