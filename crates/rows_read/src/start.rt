@@ -1,4 +1,5 @@
 // What the start of a row puts into the store.
+// That the kind is the row's own stands in each contract: a type that says so would have to hold the input too, for these three functions.
 ghost use Rattle.std.specs.Prelude.{◌≡◌, ◌≤◌, length};
 ghost use Rattle.rows_read.specs.Row.{kind_of, early, crate_start, document_start, start_of};
 

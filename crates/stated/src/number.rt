@@ -1,4 +1,6 @@
 // The number of an EXPOSURE line: a decimal, rounded once to an f32, above zero and finite.
+// The bounds of n and of the digits behind the point stand in three contracts: a struct of both would stand for these inner functions alone.
+// That a factor is usable is said of an f32 where it is made; a type of its own would be taken apart at each product.
 ghost use Rattle.std.specs.Prelude.{◌≡◌, ◌&&◌, ◌++◌, ◌+◌, ◌*◌, ◌^◌, ◌≤◌, ◌<◌, Some, leb, length, drop};
 ghost use Rattle.stated.specs.Exposure.{ahead, power_by, power_of, scaled_units, digit_units, point_units, exposure_of};
 ghost use Rattle.stated.specs.Inner.{usable_factor, factor_of, few_number, UsableFactor};
