@@ -15,6 +15,7 @@ use crate_part::CrateCounts;
 use document::DocumentCounts;
 use steps::{Reading, Taken};
 
+// The store, a channel of the four and a width go in three parameters and no struct: the definitions speak of the whole store, and each call is for another channel.
 // One channel.
 fn read_channel(
     reading: Reading,
@@ -27,6 +28,7 @@ fn read_channel(
     requires { (channel < 4) × (4 * width ≤ length store.old) }
     ensures { (result, store.new) ≡ channel_of (count_rule reading) src.now at store.old channel width }
 {
+    // By the reading that a caller gives (DECISIONS 74).
     match reading {
         Reading::Crate => channel::read::<CrateCounts>(src, at, store, channel, width),
         Reading::Document => channel::read::<DocumentCounts>(src, at, store, channel, width),

@@ -6,6 +6,7 @@ ghost use Rattle.channels_written.specs.Channel.{channel};
 ghost use Rattle.channels_written.specs.Inner.{Four, FourEqual, Equal, Skip, Gathers, Stops, Front, Parted, one_run, part_of, first_part};
 
 // How the front of a channel is written: so many literals, a short run, and a long run of so many bytes.
+// A run that is not there has 0 bytes, and no Option: all three are added up.
 #[derive(Clone, Copy, Debug, PartialEq, Eq)]
 pub struct Part {
     pub literals: usize,
@@ -16,6 +17,7 @@ pub struct Part {
 // A channel is three parameters and no struct: nearly each call is for another place or length, and would build it anew.
 
 // How far to go past the last two neighbours that differ of the four bytes of a channel from `at` on; 0 where all are equal.
+// No Option: 0 is a distance too, and `Skip` of the specs has it as one.
 fn skip(px: &[u8], at: usize) -> usize
     requires { at + 12 < length px.now }
     ensures { Skip px.now at result }

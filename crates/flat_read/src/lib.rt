@@ -25,6 +25,7 @@ pub fn read_flat(
     requires { (start + 4 * wanted ≤ length store.old) × (wanted ≤ 65535) }
     ensures { (result, store.new) ≡ flat_of (flat_rule reading) src.now at store.old start wanted }
 {
+    // By the reading that a caller gives (DECISIONS 74).
     match reading {
         Reading::Crate => part::read::<CratePixels>(src, at, store, start, wanted),
         Reading::Document => part::read::<DocumentPixels>(src, at, store, start, wanted),

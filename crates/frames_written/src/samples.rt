@@ -101,6 +101,7 @@ pub fn first_bright(samples: &[f32], width: usize, height: usize) -> Option<usiz
 }
 
 // A pixel's four bytes from a place on.
+// Not one with `put_four` of `flat_read`, which has the bytes of no pixel: either is four stores, and a call would name all four again.
 fn put_pixel(out: &mut [u8], o: usize, q: Rgbe)
     requires { o + 4 ≤ length out.old }
     ensures { out.new ≡ spread 1 out.old o (four q []) }

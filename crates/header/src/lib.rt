@@ -63,6 +63,7 @@ fn read_sizes(
 fn takes(reading: Reading, o: Orientation) -> bool
     ensures { result ≡ takes reading o }
 {
+    // By the reading that a caller gives (DECISIONS 74).
     match reading {
         Reading::Crate => !(o.upward || o.leftward),
         Reading::Document => true,
@@ -73,6 +74,7 @@ fn takes(reading: Reading, o: Orientation) -> bool
 fn lies(reading: Reading, o: Orientation) -> Orientation
     ensures { result ≡ lies_by reading o }
 {
+    // By the reading that a caller gives (DECISIONS 74).
     match reading {
         Reading::Crate => Orientation {
             columns: false,

@@ -4,6 +4,7 @@ ghost use Rattle.steps.specs.Place.{spread};
 ghost use Rattle.header.specs.Written.{digits, written};
 
 // How many decimal digits a number has.
+// It and `put_digits` are no `Display`: their promises are bytes, `digits` of the specs, and those of a formatter are none.
 fn digit_count(n: usize) -> usize
     ensures { result ≡ length (digits n) }
 {

@@ -58,6 +58,7 @@ impl Written for f32 {
 }
 
 // The worth of a digit.
+// No `to_digit(16)`: it takes capitals, which are none here.
 #[tactic(auto, unfolding(crate::specs::Digits::worth))]
 fn digit(b: u8) -> Option<usize>
     ensures { result ≡ worth b }

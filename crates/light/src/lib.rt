@@ -67,7 +67,7 @@ fn is_darker(reading: Reading, p: Rgbe, q: Rgbe) -> bool
 pub fn is_black(reading: Reading, q: Rgbe) -> bool
     ensures { result ≡ is_black reading q }
 {
-    Light::of(reading, q).count == 0
+    count(reading, q) == 0
 }
 
 // Whether a pixel shows light, and its exponent byte is outside 97 to 159.

@@ -60,6 +60,7 @@ fn colour_of(colour: Option<Colour>) -> u64
 }
 
 // The bit pattern of a number, and 0 for what is none.
+// `sky` has the same line and not this crate, which is for C.
 #[tactic(auto, unfolding(crate::specs::Numbers::pattern_of))]
 fn pattern_of(x: f32) -> u32
     ensures { result ≡ pattern_of x }

@@ -91,6 +91,7 @@ fn crate_shift(e: u8) -> u32
 pub fn shift(reading: Reading, e: u8) -> u32
     ensures { result ≡ shift_of reading e }
 {
+    // By the reading that a caller gives (DECISIONS 74).
     match reading {
         Reading::Crate => crate_shift(e),
         Reading::Document => u32::from(e) + 12,
@@ -101,6 +102,7 @@ pub fn shift(reading: Reading, e: u8) -> u32
 pub fn count(reading: Reading, m: u8) -> u32
     ensures { result ≡ count_of reading m }
 {
+    // By the reading that a caller gives (DECISIONS 74).
     match reading {
         Reading::Crate => u32::from(m),
         Reading::Document => 2 * u32::from(m) + 1,
@@ -114,6 +116,7 @@ fn scale(reading: Reading, e: u8) -> f32
     if e == 0 {
         return 0.0;
     }
+    // By the reading that a caller gives (DECISIONS 74).
     match reading {
         Reading::Crate => power(crate_shift(e)),
         Reading::Document => any_power(u32::from(e) + 12),

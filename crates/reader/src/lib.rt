@@ -35,6 +35,7 @@ pub fn step(
 }
 
 // How the picture of a header is stored.
+// No `From`: neither `header` nor `places` knows the other's type.
 fn layout_of(head: Head) -> Layout
     ensures { result ≡ record { orientation = head.orientation; width = head.width; height = head.height } }
 {

@@ -3,6 +3,7 @@ ghost use Rattle.std.specs.Prelude.{◌≡◌, ◌+◌, ◌≤◌, length, get_o
 ghost use Rattle.rows_read.specs.Row.{is_flat_width, is_mark, kind_of};
 
 // How a row goes on: bytes are missing; it is flat from its first byte; pixel 0 is taken and the rest is flat; or four channels come.
+// Missing bytes are a kind and no Err: `kind_of` of the specs has these four, and in the crate reading the row store may hold some of them by then.
 #[derive(Clone, Copy)]
 pub(crate) enum Kind {
     Missing,

@@ -17,7 +17,7 @@ use steps::{Reading, Taken};
 fn told(high: u8, low: u8) -> usize
     ensures { result ≡ high * 256 + low }
 {
-    usize::from(high) * 256 + usize::from(low)
+    usize::from(u16::from_be_bytes([high, low]))
 }
 
 // Whether the mark at a place, whose four bytes are there, will do for rows of that width.
@@ -25,6 +25,7 @@ fn is_right(reading: Reading, src: &[u8], at: usize, width: usize) -> bool
     requires { at + 4 ≤ length src.now }
     ensures { result ≡ mark_of reading src.now at width }
 {
+    // By the reading that a caller gives (DECISIONS 74).
     match reading {
         Reading::Crate => true,
         Reading::Document => told(src[at + 2], src[at + 3]) == width,

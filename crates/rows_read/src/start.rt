@@ -58,6 +58,7 @@ pub(crate) fn put_start(reading: Reading, src: &[u8], at: usize, store: &mut [u8
     requires { (4 ≤ length store.old) × (kind ≡ kind_of src.now at) }
     ensures { store.new ≡ start_of reading src.now at store.old }
 {
+    // By the reading that a caller gives (DECISIONS 74).
     match reading {
         Reading::Crate => put_crate(src, at, store, kind),
         Reading::Document => put_document(src, at, store, kind),

@@ -40,6 +40,7 @@ pub(crate) fn channel_length(px: &[u8], from: usize, w: usize) -> usize
 }
 
 // Stores n bytes of the channel that starts at `at`, from `to` on.
+// Not one with `put_known` of `channels_read`: there the places stored to are four apart, here those read.
 #[tactic(auto, using(crate::proofs::Laws::Store::copy_start, crate::proofs::Laws::Store::copy_next))]
 fn copy_bytes(px: &[u8], at: usize, n: usize, out: &mut [u8], to: usize)
     requires { (at + 4 * n < length px.now + 4) × (to + n ≤ length out.old) }

@@ -112,6 +112,7 @@ pub fn read(reading: Reading, bytes: &[u8], at: usize) -> Result<Said, Reason>
     requires { at ≤ length bytes.now }
     ensures { paper_of result ≡ said_by reading bytes.now at }
 {
+    // By the reading that a caller gives (DECISIONS 74).
     match reading {
         Reading::Crate => Ok(NOTHING),
         Reading::Document => read_lines(bytes, at),

@@ -28,6 +28,7 @@ pub fn is_coded(w: usize) -> bool
 }
 
 // The n bytes of src from p on, to the places from `from` on.
+// A loop and no `copy_from_slice`: where n is 0, p may lie behind the end, and no part of src starts there.
 #[tactic(auto, using(crate::proofs::Laws::Place::literal_start, crate::proofs::Laws::Place::literal_next))]
 pub fn put_bytes(src: &[u8], p: usize, store: &mut [u8], from: usize, n: usize)
     requires { (n ≤ length src.now - p) × (from + n ≤ length store.old) }

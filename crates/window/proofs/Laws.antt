@@ -1,4 +1,3 @@
--- The laws of the definitions in `specs/`, a file for each of its files; and of bytes that are moved.
+-- The laws of the definitions in `specs/`, a file for each of its files.
 pub mod Row
 pub mod Header
-pub mod Slide

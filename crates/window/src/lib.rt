@@ -55,13 +55,10 @@ pub fn read_row(
     row_part(more, part.len(), taken)
 }
 
-// Moves the bytes from `at` to `end` to the front; those behind them stay as they were. The library has no `copy_within`.
-#[tactic(auto, using(crate::proofs::Laws::Slide::slid_again))]
+// Moves the bytes from `at` to `end` to the front; those behind them stay as they were.
 pub fn slide(bytes: &mut [u8], at: usize, end: usize)
     requires { (at ≤ end) × (end ≤ length bytes.old) }
     ensures { bytes.new ≡ between bytes.old at end ++ drop (end - at) bytes.old }
 {
-    for i in 0..end - at {
-        bytes[i] = bytes[at + i];
-    }
+    bytes.copy_within(at..end, 0);
 }

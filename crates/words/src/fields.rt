@@ -11,6 +11,7 @@ fn is_blank(x: u8) -> bool
 }
 
 // The part without the white space that it starts with.
+// A `while`, here and below: it goes from a part to its rest, as `trim_start` and `trim_end` of the specs do.
 #[tactic(auto, using(crate::proofs::Laws::Fields::start_none, crate::proofs::Laws::Fields::start_on, crate::proofs::Laws::Fields::start_stop))]
 fn trim_start(part: &[u8]) -> &[u8]
     ensures { result.now ≡ trim_start part.now }

@@ -4,6 +4,7 @@ ghost use Rattle.words.specs.Inner.{size_answer};
 ghost use Rattle.words.specs.Sizes.{unsigned, number_from};
 
 // The number n with one digit more.
+// No `parse`: it reads text, and a field may be any bytes.
 #[tactic(auto, using(crate::proofs::Laws::Sizes::digit_not, crate::proofs::Laws::Sizes::digit_over, crate::proofs::Laws::Sizes::digit_fits))]
 fn with_digit(n: usize, x: u8) -> Option<usize>
     ensures { result ≡ number_from n (x ∷ []) }
