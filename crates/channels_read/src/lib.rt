@@ -16,6 +16,7 @@ use document::DocumentCounts;
 use steps::{Reading, Taken};
 
 // The store, a channel of the four and a width go in three parameters and no struct: the definitions speak of the whole store, and each call is for another channel.
+
 // One channel.
 fn read_channel(
     reading: Reading,

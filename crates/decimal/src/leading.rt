@@ -46,7 +46,7 @@ fn first(digits: &[u8; 112]) -> Lead
 }
 
 // The first nine digits of m times b^k, and how many follow.
-// The 112 digits are used whole, each time.
+// m stays a number: a type with its bound would be made for this call alone. The 112 digits are used whole, each time.
 #[tactic(auto, using(crate::proofs::Laws::Leading::power_more))]
 pub fn leading(m: usize, b: usize, k: usize) -> Lead
     requires { (m < 16777216) × (b ≤ 5) × Short (m * b ^ k) }

@@ -11,6 +11,7 @@ use places::Line;
 use steps::Reading;
 
 // The store and a count of pixels, and no part of it: `samples_from` and `placed` of the specs speak of pixels of the row store.
+
 // A pixel's three samples from a place on.
 #[tactic(auto, using(steps::proofs::Laws::Place::put_three))]
 fn put_pixel(out: &mut [f32], o: usize, p: Pixel)
@@ -23,7 +24,7 @@ fn put_pixel(out: &mut [f32], o: usize, p: Pixel)
 }
 
 // The samples of the row store's first n pixels, to the output from a place on.
-// `put_line` could do it too; where the places go up by three, the compiler does several pixels at once (`bench/run`).
+// `put_line` does it too, but asks at each pixel which way the line goes; nearly every row is one of these.
 fn put_samples(reading: Reading, store: &[u8], out: &mut [f32], from: usize, n: usize)
     requires { (4 * n ≤ length store.now) × (from + 3 * n ≤ length out.old) }
     ensures { out.new ≡ spread 1 out.old from (samples_from (pixel_by reading) store.now 0 n) }

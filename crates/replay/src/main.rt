@@ -49,6 +49,7 @@ fn answer_chunk(
 // Nothing says that an input ends, so its chunks are counted, up to a number that no run comes to.
 fn answer_all(input: &mut impl Read, room: &mut Room, out: &mut impl Write) -> fmt::Result {
     let mut line = Line::new();
+    // of which each answer of `read` is a part
     let mut chunk = [0u8; 65536];
     for _ in 0..u64::MAX {
         let n = input.read(&mut chunk).unwrap_or(0);

@@ -9,6 +9,7 @@ pub(crate) fn head<'a>(by: Reading, mut fields: Fields, room: &'a mut Room) -> O
     let (widest, highest) = fields.pair()?;
     let n = fields.values(&mut room.bytes)?;
     let head = header::read(by, &room.bytes[..n], widest, highest);
+    // By the reading that the line names (DECISIONS 74).
     match by {
         Reading::Crate => Some(Answer::Head(head)),
         Reading::Document => Some(Answer::Said(head)),

@@ -9,6 +9,7 @@ ghost use Rattle.rows_written.specs.Row.{mark, coded_row, written_row};
 ghost use Rattle.rows_written.specs.Inner.{Stored};
 
 // The pixels, a place and a width go in three parameters and no struct: the definitions speak of places in all of them, and each call goes on at another.
+
 // How many bytes a coded row of w pixels, the first at `at`, is written in.
 fn coded_length(px: &[u8], at: usize, w: usize) -> usize
     requires { (at + 4 * w ≤ length px.now) × (0 < w) }

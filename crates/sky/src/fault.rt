@@ -67,6 +67,7 @@ pub(crate) fn refused(bytes: &[u8], reason: Reason) -> Stop {
     let at = start_of(bytes, lines::past(bytes, 0, b'\n'));
     let before = bytes[..at].iter().filter(|x| **x == b'\n').count();
     let text = trim(&bytes[at..lines::past(bytes, at, b'\n')]);
+    // its length is that of the whole line, of which it is the start
     let mut start = [0u8; 60];
     for (to, x) in start.iter_mut().zip(text) {
         *to = shown(*x);

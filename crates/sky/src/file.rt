@@ -21,6 +21,7 @@ pub(crate) struct Sizes {
 
 impl Sizes {
     // How the picture is stored: the rows of the file are its rows, or its columns where X is named first.
+    // `reader` has the same with no bounds; these are what a window needs.
     fn layout(&self) -> Layout
         ensures { (result.width ≤ 65535) × (result.height ≤ 65535) }
     {

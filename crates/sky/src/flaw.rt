@@ -25,6 +25,7 @@ fn is_too_large(field: &[u8]) -> bool {
 }
 
 // Whether one of the sizes is 2^64 or more.
+// Of the five places `window` and `header` take others.
 fn has_large_size(bytes: &[u8]) -> bool {
     let at = lines::lines_end(bytes, lines::past(bytes, 0, b'\n'));
     let a = lines::past(bytes, at, b' ');

@@ -37,6 +37,7 @@ impl fmt::Display for Ratio {
         if self.j == 0 {
             return Ok(());
         }
+        // lent for the digits that there are, and gone after they are written
         let mut store = [0u8; 40];
         let decimals = &mut store[..self.j];
         decimal::put_decimals(self.n % unit, unit, decimals);

@@ -8,6 +8,7 @@ use std::fmt::Display;
 use steps::Reading;
 
 // The kind of colour, if it is stated.
+// The words of this kind and of the axes are those of this program; `replay` has its own, which its lines lay down.
 pub(crate) fn colour(head: &Head) -> Option<&'static str> {
     match head.colour? {
         Colour::Rgbe => Some("rgbe"),
@@ -40,6 +41,7 @@ fn say_stated<D: Display + Drop>(
 }
 
 // In three lines.
+// Here and below by the reading that the command line gives (DECISIONS 74).
 pub(crate) fn say_lines(rt: &impl Print, reading: Reading, head: &Head) {
     let _ = match reading {
         Reading::Document => println!(rt; "  orientation      {}", Order(head.orientation)),

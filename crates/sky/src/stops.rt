@@ -62,7 +62,8 @@ fn say_chart(rt: &impl Print, counts: &[usize; 264], height: usize) {
     let _ = println!(rt; "  black pixels     {}", counts[0]);
 }
 
-// Reads a file, and shows its light. `info` does the same with other rows and words: they are what would be passed, and the rest is three calls.
+// Reads a file, and shows its light.
+// `info` and `brief` open a file so too. One function would take what they read and say as two closures over a picture that borrows the file: no fewer lines.
 fn tell_file<R: System>(
     rt: &R,
     reading: Reading,
@@ -83,6 +84,7 @@ fn tell_file<R: System>(
 }
 
 // Shows the light of a file, or says why it is refused.
+// Two lines, as in `info`: `tell_file` would go in as a closure over all that is passed.
 pub(crate) fn tell<R: System>(
     rt: &R,
     reading: Reading,

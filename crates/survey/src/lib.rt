@@ -65,7 +65,7 @@ impl Totals {
         let mut k = 0;
         // from run to run, not by one: no `for`
         while k < n {
-            let end = run_end(store, k, n);
+            let end = run_end(store, k);
             totals = totals.with_pixels(reading, pixel::rgbe_at(store, 4 * k), end - k);
             k = end;
         }
@@ -81,13 +81,14 @@ fn times(b: bool, n: usize) -> usize
     if b { n } else { 0 }
 }
 
-// Where, among n pixels, those end that are the same as pixel k, which is one of them.
+// Where those pixels end that are the same as pixel k, which is one of them.
 #[tactic(auto, using(crate::proofs::Laws::Survey::alike_one, crate::proofs::Laws::Survey::alike_next))]
-fn run_end(store: &[u8], k: usize, n: usize) -> usize
-    requires { (k < n) × (4 * n ≤ length store.now) }
-    ensures within { (k < result) × (result ≤ n) }
+fn run_end(store: &[u8], k: usize) -> usize
+    requires { k < length store.now / 4 }
+    ensures within { (k < result) × (result ≤ length store.now / 4) }
     ensures alike { Alike store.now (4 * k) (result - k) }
 {
+    let n = store.len() / 4;
     let first = pixel::rgbe_at(store, 4 * k);
     for j in k + 1..n {
         if pixel::rgbe_at(store, 4 * j) != first {

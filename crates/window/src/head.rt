@@ -10,6 +10,7 @@ use steps::refusal::{Reason, Refusal};
 use words::lines;
 
 // Whether a header ends inside the part: its last field begins there, and ends with its line feed.
+// Its fields are walked here, in `header` and in `sky` for three answers: one struct of their five places would be taken apart by each.
 #[tactic(auto, using(crate::proofs::Laws::Header::ends_by, crate::proofs::Laws::Header::ends_not))]
 fn header_ends(part: &[u8]) -> bool
     ensures { result ≡ ends_inside part.now }

@@ -13,6 +13,7 @@ use steps::refusal::Reason;
 use steps::{Reading, Taken};
 
 // Whether what ends at a place may need more than a part of that length. `more` says whether the file goes on after the part.
+// They stay two parameters: of a struct of both each call would build one, for a part of another length.
 fn reaches(more: bool, length: usize, end: usize) -> bool
     ensures { result ≡ more && leb length end }
 {

@@ -23,6 +23,7 @@ use frames_written::samples::Samples;
 use steps::refusal::{Reason, Refusal};
 
 // Each call stands twice, of samples and of four-byte pixels: the C interface has both, with checks of their own.
+
 // How long the file of a frame of samples is.
 pub fn length(width: usize, height: usize, samples: &[f32]) -> Result<usize, Refusal>
     ensures { LengthPromise width height samples.now result }
