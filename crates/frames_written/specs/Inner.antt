@@ -12,7 +12,8 @@ any_near samples i (suc n) = near (get_or samples i nan) || any_near samples (i 
 abbrev pub RowOf : (ℕ → Type 0) → ℕ → Type 0
 RowOf CanWrite k = (h : ℕ) × (k < h) × CanWrite h
 
--- the same pixels, with another line to work in: what could be written still can, and is the same
-pub record Kept {A : Type 0} (CanWrite : A → ℕ → ℕ → Type 0) (line : A → ℕ → ℕ → List ℕ) (old new : A) : Type 0 where
+-- the same pixels as they were lent, with another line to work in: what could be written still can, and is the same
+pub record Kept {A B : Type 0} (CanWrite : A → ℕ → ℕ → Type 0) (line : A → ℕ → ℕ → List ℕ) (lent : A → B) (old new : A) : Type 0 where
   pub can : (w h : ℕ) → CanWrite old w h → CanWrite new w h
   pub same : (w k : ℕ) → line new w k ≡ line old w k
+  pub as_lent : lent new ≡ lent old

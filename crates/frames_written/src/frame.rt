@@ -13,11 +13,16 @@ pub trait Rows {
     // the pixels of row k of w pixels, four bytes to each
     ghost line: { Self → ℕ → ℕ → List ℕ };
 
+    // what the caller lent, which stays as it is
+    ghost Lent: { Type 0 };
+
+    ghost lent: { Self → Lent };
+
     // How many bytes row k is written in.
     fn row_length(&mut self, width: usize, k: usize) -> usize
         requires { RowOf (CanWrite self.old width) k }
         ensures value { result ≡ length (written_row (line self.old width k) 0 width) }
-        ensures kept { Kept CanWrite line self.old self.new };
+        ensures kept { Kept CanWrite line lent self.old self.new };
 
     // Stores row k from `to` on, and answers the place after it.
     fn write_row(&mut self, width: usize, k: usize, out: &mut [u8], to: usize) -> usize
@@ -25,7 +30,7 @@ pub trait Rows {
         requires room { to + length (written_row (line self.old width k) 0 width) ≤ length out.old }
         ensures next { result ≡ to + length (written_row (line self.old width k) 0 width) }
         ensures stored { out.new ≡ spread 1 out.old to (written_row (line self.old width k) 0 width) }
-        ensures kept { Kept CanWrite line self.old self.new };
+        ensures kept { Kept CanWrite line lent self.old self.new };
 }
 
 // The most that a row takes.
@@ -53,7 +58,7 @@ fn rows_length<R: Rows>(rows: &mut R, width: usize, height: usize) -> usize
     requires limits { (width ≤ 65535) × (height ≤ 65535) }
     requires can { R.CanWrite rows.old width height }
     ensures value { result ≡ length (rows_by (R.line rows.old width) width height) }
-    ensures kept { Kept R.CanWrite R.line rows.old rows.new }
+    ensures kept { Kept R.CanWrite R.line R.lent rows.old rows.new }
 {
     let mut n = 0;
     for k in 0..height {
@@ -67,7 +72,7 @@ pub fn frame_length<R: Rows>(rows: &mut R, width: usize, height: usize) -> usize
     requires limits { (width ≤ 65535) × (height ≤ 65535) }
     requires can { R.CanWrite rows.old width height }
     ensures value { result ≡ length (frame_by (R.line rows.old width) width height) }
-    ensures kept { Kept R.CanWrite R.line rows.old rows.new }
+    ensures kept { Kept R.CanWrite R.line R.lent rows.old rows.new }
 {
     header::length(width, height) + rows_length(rows, width, height)
 }
@@ -77,7 +82,7 @@ pub fn fits<R: Rows>(rows: &mut R, width: usize, height: usize, room: usize) -> 
     requires limits { (width ≤ 65535) × (height ≤ 65535) }
     requires can { R.CanWrite rows.old width height }
     ensures value { result ≡ leb (length (frame_by (R.line rows.old width) width height)) room }
-    ensures kept { Kept R.CanWrite R.line rows.old rows.new }
+    ensures kept { Kept R.CanWrite R.line R.lent rows.old rows.new }
 {
     worst_length(width, height) <= room || frame_length(rows, width, height) <= room
 }
@@ -94,6 +99,7 @@ fn write_rows<R: Rows>(
     requires room { to + length (rows_by (R.line rows.old width) width height) ≤ length out.old }
     ensures next { result ≡ to + length (rows_by (R.line rows.old width) width height) }
     ensures stored { out.new ≡ spread 1 out.old to (rows_by (R.line rows.old width) width height) }
+    ensures kept { Kept R.CanWrite R.line R.lent rows.old rows.new }
 {
     let mut o = to;
     for k in 0..height {
@@ -108,6 +114,7 @@ pub fn write_frame<R: Rows>(rows: &mut R, width: usize, height: usize, out: &mut
     requires room { length (frame_by (R.line rows.old width) width height) ≤ length out.old }
     ensures value { result ≡ length (frame_by (R.line rows.old width) width height) }
     ensures stored { out.new ≡ spread 1 out.old 0 (frame_by (R.line rows.old width) width height) }
+    ensures kept { Kept R.CanWrite R.line R.lent rows.old rows.new }
 {
     let at = header::write(width, height, out);
     write_rows(rows, width, height, out, at)

@@ -1,5 +1,5 @@
 // A frame of samples: its pixels are packed row by row into a line of four-byte pixels.
-ghost use Rattle.std.specs.Prelude.{◌≡◌, [], ◌+◌, ◌*◌, ◌<◌, ◌≤◌, length};
+ghost use Rattle.std.specs.Prelude.{◌≡◌, [], ◌+◌, ◌*◌, ◌<◌, ◌≤◌, List, length, replicate, Float};
 ghost use Rattle.steps.specs.Place.{spread};
 ghost use Rattle.frames_written.specs.Samples.{pixel_at, four, packed, first_bright, FirstOf};
 ghost use Rattle.frames_written.specs.Inner.{any_near};
@@ -17,7 +17,8 @@ pub struct Samples<'a> {
 impl<'a> Samples<'a> {
     // These samples, and a line.
     pub fn new(samples: &'a [f32]) -> Samples<'a>
-        ensures { result.samples.now ≡ samples.now }
+        ensures samples { result.samples.now ≡ samples.now }
+        ensures line { result.line ≡ replicate 131072 0 }
     {
         Samples {
             samples,
@@ -30,6 +31,10 @@ impl<'a> Rows for Samples<'a> {
     ghost CanWrite = { λ s w h. (3 * (w * h) ≤ length s.samples.now) × (first_bright s.samples.now 0 (w * h) ≡ w * h) };
 
     ghost line = { λ s w k. packed s.samples.now (3 * (w * k)) w };
+
+    ghost Lent = { List Float };
+
+    ghost lent = { λ s. s.samples.now };
 
     // How many bytes row k is written in.
     fn row_length(&mut self, width: usize, k: usize) -> usize {

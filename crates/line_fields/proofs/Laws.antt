@@ -1,2 +1,3 @@
 -- The laws of the definitions in `specs/`.
 pub mod Fields
+pub mod Filled

@@ -17,7 +17,9 @@ fn wrong(rt: &impl Print, what: &str, word: &[u8]) -> Refused {
 
 // The word i; no bytes where it is missing or too long.
 fn word(rt: &impl System, i: usize) -> Word {
-    Word::arg(rt, i).unwrap_or(Word::EMPTY)
+    let mut word = Word::EMPTY;
+    word.read(rt, i);
+    word
 }
 
 // What the words before the names ask for, and the place of the first name.
@@ -57,10 +59,12 @@ fn each_file<F: FnMut(&[u8]) -> Result<(), Refused>>(
     requires { F.IsAlwaysCallable tell }
 {
     let mut refused = 0usize;
+    let mut name = Word::EMPTY;
     for i in from..system::arg_count(rt) {
-        let told = match Word::arg(rt, i) {
-            Some(name) => tell(name.as_slice()),
-            None => Err(wrong(rt, "a name is too long", b"")),
+        let told = if name.read(rt, i) {
+            tell(name.as_slice())
+        } else {
+            Err(wrong(rt, "a name is too long", b""))
         };
         if told.is_err() {
             refused = refused.wrapping_add(1);

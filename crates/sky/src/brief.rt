@@ -70,21 +70,33 @@ fn say_found(rt: &impl Print, reading: Reading, found: Option<(Totals, usize)>) 
     say::tab(rt, found.map(|(_, after)| after));
 }
 
-// Says the fields of a file before its name.
-fn say_line(rt: &impl Print, reading: Reading, line: Line, stop: Option<Stop>) {
-    let _ = print!(rt; "{}", if stop.is_none() { "whole" } else { "refused" });
-    say::tab(
-        rt,
-        stop.and_then(|stop| stop.reason())
-            .map(|reason| usize::from(u8::from(reason))),
-    );
-    say::tab(rt, stop.and_then(|stop| stop.row()));
-    say::tab(rt, line.head.map(|head| head.width));
-    say::tab(rt, line.head.map(|head| head.height));
+// The first three fields: whether the file is whole, and the number and the row of a refusal. Fields that are all dashes are written at once.
+fn say_status(rt: &impl Print, stop: Option<Stop>) {
+    let status = if stop.is_none() { "whole" } else { "refused" };
+    let reason = stop.and_then(|stop| stop.reason());
+    let row = stop.and_then(|stop| stop.row());
+    if reason.is_none() && row.is_none() {
+        let _ = print!(rt; "{status}\t-\t-");
+        return;
+    }
+    let _ = print!(rt; "{status}");
+    say::tab(rt, reason.map(|reason| usize::from(u8::from(reason))));
+    say::tab(rt, row);
+}
+
+// The fields of a header and its rows, and the tab before the name.
+fn say_line(rt: &impl Print, reading: Reading, line: Line) {
+    let Some(head) = line.head else {
+        let _ = print!(rt; "\t-\t-\t-\t-\t-\t-\t-\t-\t-\t-\t");
+        return;
+    };
+    say::tab(rt, Some(head.width));
+    say::tab(rt, Some(head.height));
     say_found(rt, reading, line.found);
-    field(rt, line.head.and_then(|head| said::colour(&head)));
-    field(rt, line.head.and_then(|head| said::exposure(&head)));
-    field(rt, line.head.and_then(|head| said::axes(reading, &head)));
+    field(rt, said::colour(&head));
+    field(rt, said::exposure(&head));
+    field(rt, said::axes(reading, &head));
+    let _ = print!(rt; "\t");
 }
 
 // Says what a file holds in a line.
@@ -99,8 +111,8 @@ pub(crate) fn tell<R: System>(
         found: None,
     };
     let looked = look(rt, reading, name, desk, &mut line);
-    say_line(rt, reading, line, looked.err());
-    let _ = print!(rt; "\t");
+    say_status(rt, looked.err());
+    say_line(rt, reading, line);
     say::heading(rt, name);
     looked.map_err(|_| Refused)
 }

@@ -40,6 +40,17 @@ fn say_copied(rt: &impl Print, picture: &mut Picture<impl Read>, out: &[u8], wri
     let _ = println!(rt; "  bytes written    {written}");
 }
 
+// Reads the row k and writes it anew.
+fn copy_row(
+    picture: &mut Picture<impl Read>,
+    pen: &mut Pen,
+    to: &mut impl Write,
+    k: usize,
+) -> Result<(), Stop> {
+    picture.next_row(k)?;
+    pen.put_row(to, picture.row)
+}
+
 // Writes the header as it is, which the window starts with, and the rows, read one by one, anew.
 fn copy_rows<R: System>(
     picture: &mut Picture<impl Read>,
@@ -51,9 +62,9 @@ fn copy_rows<R: System>(
     pen.begin(to, picture.window.first(sizes.head.taken));
     let count = sizes.count();
     for k in 0..count {
-        picture.next_row(k)?;
-        pen.put_row(to, picture.row)?;
+        let copied = copy_row(picture, pen, to, k);
         progress.step(k, count);
+        copied?;
     }
     pen.finish(to)
 }

@@ -1,6 +1,6 @@
 // A file that is read by a window: 2 MiB of it are held, and a header or a row is looked for in the 1 MiB from its start on.
 // What is read or refused in such a part is read or refused alike in the whole file: `header_of_file`, `refusal_of_file` and `reading_row_of_file`, in the laws of `window`.
-ghost use Rattle.std.specs.Prelude.{◌≤◌, length};
+ghost use Rattle.std.specs.Prelude.{◌≡◌, ◌≤◌, length};
 
 use crate::flaw;
 use crate::rows::Row;
@@ -146,6 +146,14 @@ impl<'a> Window<'a> {
         }
     }
 
+    // The same bytes held, with the next byte at another place.
+    fn move_to(&mut self, at: usize)
+        requires { at ≤ self.old.end }
+        ensures { (self.new.at ≡ at) × (self.new.end ≡ self.old.end) }
+    {
+        self.at = at;
+    }
+
     // Moves to the first row; a width of 0 is refused.
     fn start(&mut self, head: Head) -> Result<Sizes, Stop>
         requires { (head.width ≤ 65535) × (head.height ≤ 65535) × (head.taken ≤ self.old.end) }
@@ -153,7 +161,7 @@ impl<'a> Window<'a> {
         if head.width == 0 {
             return Err(Stop::Refused(Refusal::from(Reason::NoWidth)));
         }
-        self.at = head.taken;
+        self.move_to(head.taken);
         Ok(Sizes { head })
     }
 
@@ -170,7 +178,7 @@ impl<'a> Window<'a> {
         let (part, more) = self.part();
         match row.read(reading, part, more, at) {
             Some(Ok(next)) => {
-                self.at = next;
+                self.move_to(next);
                 Ok(())
             }
             Some(Err(reason)) => Err(Stop::Refused(Refusal { reason, place: k })),

@@ -1,5 +1,5 @@
 // Numbers in decimal, and a pixel's light.
-ghost use Rattle.std.specs.Prelude.{◌≤◌, ◌<◌};
+ghost use Rattle.std.specs.Prelude.{◌≡◌, ◌^◌, ◌≤◌, ◌<◌};
 
 use decimal::leading::leading;
 use light::Light;
@@ -27,12 +27,20 @@ impl Ratio {
             j: ratio.j,
         })
     }
+
+    // 2^j.
+    #[tactic(auto, using(crate::proofs::Laws::Room::power_is, crate::proofs::Laws::Room::power_bounds))]
+    fn unit(&self) -> usize
+        ensures value { result ≡ 2 ^ self.now.j }
+        ensures result_nonzero { (0 < result) × (result ≤ 2000000000000) }
+    {
+        1usize << self.j
+    }
 }
 
 impl fmt::Display for Ratio {
-    #[tactic(auto, using(crate::proofs::Laws::Room::power_bounds))]
     fn fmt<W: fmt::Write>(&self, f: &mut fmt::Formatter<W>) -> fmt::Result {
-        let unit = 1usize << self.j;
+        let unit = self.unit();
         write!(f, "{}", self.n / unit)?;
         if self.j == 0 {
             return Ok(());

@@ -1,5 +1,5 @@
 // The rows of a picture, one by one, and what they say together.
-ghost use Rattle.std.specs.Prelude.{◌≡◌, ◌*◌, ◌+◌, ◌≤◌, length};
+ghost use Rattle.std.specs.Prelude.{◌≡◌, ◌*◌, ◌+◌, ◌≤◌, length, IfOk};
 ghost use Rattle.window.specs.Row.{RowWithin};
 
 use crate::picture::Picture;
@@ -9,6 +9,13 @@ use crate::system::System;
 use std::io::Read;
 use steps::{Reading, Taken};
 use survey::Totals;
+
+// The first n bytes are 0: those that a row needs, and no more for each file.
+fn clear(store: &mut [u8], n: usize)
+    requires { n ≤ length store.old }
+{
+    store[..n].fill(0);
+}
 
 // The store of a row, and how many pixels it has.
 #[derive(Drop)]
@@ -30,7 +37,7 @@ impl<'a> Row<'a> {
     {
         self.long = long;
         let store = &mut *self.store;
-        store.fill(0);
+        clear(store, 4 * long);
     }
 
     // Reads it in a part of a file.
@@ -106,13 +113,16 @@ impl Found {
 pub(crate) fn read_rows<I: Read, R: System>(
     picture: &mut Picture<I>,
     progress: &Progress<R>,
-) -> Result<Found, Stop> {
+) -> Result<Found, Stop>
+    ensures { IfOk result (λ found. found.length ≤ 17179869184) }
+{
     let count = picture.sizes.count();
     let mut found = Found::new();
     for k in 0..count {
-        picture.next_row(k)?;
-        found.add(picture.reading, picture.row);
+        let read = picture.next_row(k);
         progress.step(k, count);
+        read?;
+        found.add(picture.reading, picture.row);
     }
     Ok(found)
 }

@@ -51,7 +51,7 @@ impl<'a, R: System> Progress<'a, R> {
         Progress { rt, shown }
     }
 
-    // The row k is done: each tenth of the rows is told.
+    // The row k is done, or refused: each tenth of the rows is told.
     pub(crate) fn step(&self, k: usize, count: usize)
         requires { (k < count) × (count ≤ 65535) }
     {

@@ -18,9 +18,10 @@ fn count_rows<R: System>(
 ) -> Result<(), Stop> {
     let count = picture.sizes.count();
     for k in 0..count {
-        picture.next_row(k)?;
-        survey::stops::row(picture.row.pixels(), counts);
+        let read = picture.next_row(k);
         progress.step(k, count);
+        read?;
+        survey::stops::row(picture.row.pixels(), counts);
     }
     Ok(())
 }

@@ -17,11 +17,12 @@ impl Word {
         length: 0,
     };
 
-    // The word i; none where it is missing or longer.
-    pub(crate) fn arg(rt: &impl Env, i: usize) -> Option<Word> {
-        let mut bytes = [0u8; 4096];
-        let length = rt.arg(i, &mut bytes).ok()?;
-        Some(Word { bytes, length })
+    // Reads the word i, and answers whether it is there; it has no bytes where it is missing or longer.
+    // In place, and no answer of its own: a word takes 4 KiB, and would be moved with each.
+    pub(crate) fn read(&mut self, rt: &impl Env, i: usize) -> bool {
+        let read = rt.arg(i, &mut self.bytes);
+        self.length = read.unwrap_or(0);
+        read.is_ok()
     }
 
     // Whether it has no bytes.

@@ -7,7 +7,9 @@ use native.Mathlib.Numerals.{add-one}
 use native.Mathlib.Omega.{arith}
 use lib.Dec.{lit<}
 use lib.ListN.{length, get_or, take, drop, set, drop_of_length-le}
-use lib.Seq.{drop-cons, drop-set-lt, take-length, take-suc-set}
+use lib.Seq.{drop-cons, drop-set-lt, drop-length, take-length, take-suc-set}
+use Rattle.steps.specs.Place.{spread}
+use Rattle.steps.proofs.Laws.Place.{spread_front}
 use Rattle.decimal.specs.Leading.{Short}
 use Rattle.decimal.specs.Inner.{digits_of, carried}
 
@@ -35,6 +37,16 @@ carried_none c [] = refl
 carried_none c (d ∷ ds) = rw (mul-zero, zero-add) (rw (carried_none (c / 10) ds))
 
 -- ---- Stored one by one
+
+length_carried : (b c : ℕ) (ds : List ℕ) → length (carried b c ds) ≡ length ds
+unfolding carried
+length_carried b c [] = refl
+length_carried b c (d ∷ ds) = ap suc (length_carried b ((d * b + c) / 10) ds)
+
+pub carry_start : (b c : ℕ) (ds : List ℕ) → spread 1 ds 0 (carried b c (drop 0 ds)) ≡ carried b c ds
+carry_start b c ds =
+    let n = length_carried b c ds in
+    spread_front ds (carried b c ds) (omega arith) ∙ ap (λ (k : ℕ). carried b c ds ++ drop k ds) n ∙ ap (λ (l : List ℕ). carried b c ds ++ l) (drop-length ds) ∙ append-nil (carried b c ds)
 
 pub carry_next : (ds w : List ℕ) (i b c d L : ℕ) → take i ds ++ carried b c (drop i ds) ≡ w → length ds ≡ L → i < L → d ≡ get_or ds i 0
     → take (i + 1) (set ds i ((d * b + c) % 10)) ++ carried b ((d * b + c) / 10) (drop (i + 1) (set ds i ((d * b + c) % 10))) ≡ w

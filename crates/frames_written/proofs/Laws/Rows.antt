@@ -42,10 +42,21 @@ rows_front p q at w (suc h) l =
     let rest : written_rows (p ++ q) (at + 4 * w) w h ≡ written_rows p (at + 4 * w) w h = rows_front p q (at + 4 * w) w h (omega (arith, mul-suc w h)) in
     cc
 
--- what stands after a front is written as if it stood alone
+-- a row after a front is written as if it stood alone
 row_after : (p q : List ℕ) (at w : ℕ) → at ≡ length p → written_row (p ++ q) at w ≡ written_row q 0 w
 row_after p q at w e =
     row_same (p ++ q) q at 0 w (λ k l. ap (λ (i : ℕ). get_or (p ++ q) i 0) (omega arith) ∙ get_or-append-add p q k 0 ∙ ap (λ (i : ℕ). get_or q i 0) (omega arith))
+
+-- what stands after a front is written as if it stood alone
+pub rows_after : (p q : List ℕ) (at w h : ℕ) → written_rows (p ++ q) (length p + at) w h ≡ written_rows q at w h
+unfolding written_rows
+rows_after p q at w zero = refl
+rows_after p q at w (suc h) =
+    let row : written_row (p ++ q) (length p + at) w ≡ written_row q at w = row_same (p ++ q) q (length p + at) at w
+    (λ k l. ap (λ (i : ℕ). get_or (p ++ q) i 0) (omega arith) ∙ get_or-append-add p q (at + k) 0) in
+    let next : length p + at + 4 * w ≡ length p + (at + 4 * w) = omega arith in
+    let rest : written_rows (p ++ q) (length p + at + 4 * w) w h ≡ written_rows q (at + 4 * w) w h = ap (λ (i : ℕ). written_rows (p ++ q) i w h) next ∙ rows_after p q (at + 4 * w) w h in
+    cc
 
 -- what follows a row does not matter to it
 pub row_front : (p q : List ℕ) (w : ℕ) → length p ≡ 4 * w → written_row (p ++ q) 0 w ≡ written_row p 0 w
@@ -154,12 +165,12 @@ module _ (line : ℕ → List ℕ) (w : ℕ) where
 
 -- ---- The same pixels, with another line
 
-module _ {A : Type 0} (C : A → ℕ → ℕ → Type 0) (r : A → ℕ → ℕ → List ℕ) where
-  pub kept_same : (x : A) → Kept C r x x
-  kept_same x = record { can = λ w h c. c; same = λ w k. refl }
+module _ {A B : Type 0} (C : A → ℕ → ℕ → Type 0) (r : A → ℕ → ℕ → List ℕ) (f : A → B) where
+  pub kept_same : (x : A) → Kept C r f x x
+  kept_same x = record { can = λ w h c. c; same = λ w k. refl; as_lent = refl }
 
-  pub kept_again : (x y z : A) → Kept C r x y → Kept C r y z → Kept C r x z
-  kept_again x y z p q = record { can = λ w h c. q.can w h (p.can w h c); same = λ w k. q.same w k ∙ p.same w k }
+  pub kept_again : (x y z : A) → Kept C r f x y → Kept C r f y z → Kept C r f x z
+  kept_again x y z p q = record { can = λ w h c. q.can w h (p.can w h c); same = λ w k. q.same w k ∙ p.same w k; as_lent = q.as_lent ∙ p.as_lent }
 
 rows_same : (line line' : ℕ → List ℕ) (w h : ℕ) → ((k : ℕ) → line k ≡ line' k) → rows_by line w h ≡ rows_by line' w h
 unfolding rows_by

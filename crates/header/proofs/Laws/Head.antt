@@ -25,7 +25,7 @@ use Rattle.words.proofs.Laws.Lines.{past_within, lines_within}
 use Rattle.stated.specs.declared.Said.{Said}
 use Rattle.stated.specs.Said as stated
 use Rattle.stated.specs.Said.{said_by, fault_of}
-use Rattle.header.specs.Head.{takes, lies_by, orientation_of, head, fields_of, height_field, width_field, said_in, size_checks, field_checks, head_of, head_in, head_checks, header_of, HeaderPromise}
+use Rattle.header.specs.Head.{takes, lies_by, orientation_of, head, head_by, fields_of, height_field, width_field, is_other, said_in, size_checks, field_checks, head_of, head_in, head_checks, header_of, HeaderPromise}
 use Rattle.header.specs.Inner.{sizes_answer, fields_answer}
 use Rattle.words.specs.declared.axes.Orientation.{Orientation}
 use Rattle.stated.proofs.Laws.Usable.{Above, said_above}
@@ -104,6 +104,13 @@ module _ (bytes : List ℕ) (at a b c d : ℕ) (ea : a ≡ past space bytes at) 
           ≡ checked refuse (field_checks reading axes fields widest highest) (done (head said (orientation_of reading axes) (size_of (width_field axes fields)) (size_of (height_field axes fields)) d))
       unfolding fields_answer head_of fields
       by_axes = rw fields_are (simp (← is))
+
+      -- the axes are judged before the sizes
+      answer_by : fields_answer reading said (fields_at bytes at) widest highest
+          ≡ pick (is_other reading axes) (refuse 2)
+          (checked refuse (size_checks (height_field axes fields) (width_field axes fields) widest highest) (done (head_by said (orientation_of reading axes) (height_field axes fields) (width_field axes fields) d)))
+      unfolding fields_answer head_of fields
+      answer_by = rw fields_are (simp (← is))
 
       pub fields_none : axes ≡ None → refuse 2 ≡ fields_answer reading said (fields_at bytes at) widest highest
       fields_none k = sym (by_axes ∙ simp k)

@@ -1,11 +1,11 @@
 -- The laws of `specs/Light.antt`.
 use Prim.Native.Nat.{ℕ, ◌+◌, ◌-◌, ◌*◌, ◌%◌, ◌^◌, ◌<◌, ◌≤◌, min, max}
-use mathlib.Core.Bool.{Bool}
+use mathlib.Core.Bool.{Bool, true, false}
 use mathlib.Core.Logic.{⊎_elim}
 use mathlib.Core.Path.{◌≡◌, refl, sym, ap, ◌∙◌}
 use native.Mathlib.Nat.{zero-mul, mul-le-mul_left, mul-le-mul_right, mul-lt-mul_of_pos_right, lt_of_mul-lt-mul_right}
 use native.Mathlib.Omega.{arith}
-use borrow.Author.Tests.{eq-eqb, ne_eqb}
+use borrow.Author.Tests.{eq-eqb, ne_eqb, lt-ltb, le-ltb}
 use lib.Dec.{ltb, eqb}
 use lib.Pow.{pow_pos, pow_mono, shl_exact}
 use Rattle.steps.proofs.Laws.Order.{lt_or_ge}
@@ -15,7 +15,7 @@ use Rattle.pixel.specs.declared.Rgbe.{Rgbe}
 use Rattle.pixel.specs.Rgbe.{count_of, shift_of, units_of}
 use Rattle.pixel.proofs.Laws.Numbers.{same_test, mul_pow_pow}
 use Rattle.pixel.proofs.Laws.Scales.{count_most, scale_at, scale_none}
-use Rattle.light.specs.Light.{light_of, top_of, is_black}
+use Rattle.light.specs.Light.{light_of, top_of, is_black, is_masked, darker, brighter}
 
 -- ---- The largest sample is that of the largest mantissa
 
@@ -158,3 +158,46 @@ black_test reading q m e = rw (← light_is reading q, ← e) (⊎_elim some non
         let k = mul-le-mul_right (2 ^ shift_of reading q.e) h in
         let p = pow_pos (shift_of reading q.e) in
         ne_eqb m 0 (λ z. omega arith) ∙ sym (ne_eqb (m * 2 ^ shift_of reading q.e) 0 (λ z. omega arith))
+
+module _ (reading : Reading) (q : Rgbe) (b : Bool) (eb : b ≡ is_black reading q) where
+  pub masked_black : b ≡ true → false ≡ is_masked reading q
+  unfolding is_masked
+  masked_black t = simp (sym eb ∙ t)
+
+  pub masked_low : b ≡ false → q.e < 97 → true ≡ is_masked reading q
+  unfolding is_masked
+  masked_low t h = simp (sym eb ∙ t, lt-ltb q.e 97 h)
+
+  pub masked_high : b ≡ false → 97 ≤ q.e → ltb 159 q.e ≡ is_masked reading q
+  unfolding is_masked
+  masked_high t h = simp (sym eb ∙ t, le-ltb q.e 97 h)
+
+  -- ---- The darker and the brighter
+
+  module _ (p : Rgbe) where
+    pub darker_black : b ≡ true → p ≡ darker reading p q
+    unfolding darker
+    darker_black t = simp (sym eb ∙ t)
+
+    module _ (t : b ≡ false) (a : Bool) (ea : a ≡ is_black reading p) where
+      pub darker_first : a ≡ true → q ≡ darker reading p q
+      unfolding darker
+      darker_first u = simp (sym eb ∙ t, sym ea ∙ u)
+
+      module _ (d : Bool) (ed : d ≡ ltb (light_of reading q) (light_of reading p)) (u : a ≡ false) where
+        pub darker_is : d ≡ true → q ≡ darker reading p q
+        unfolding darker
+        darker_is v = simp (sym eb ∙ t, sym ea ∙ u, sym ed ∙ v)
+
+        pub darker_not : d ≡ false → p ≡ darker reading p q
+        unfolding darker
+        darker_not v = simp (sym eb ∙ t, sym ea ∙ u, sym ed ∙ v)
+
+module _ (reading : Reading) (p q : Rgbe) (d : Bool) (ed : d ≡ ltb (light_of reading p) (light_of reading q)) where
+  pub brighter_is : d ≡ true → q ≡ brighter reading p q
+  unfolding brighter
+  brighter_is v = simp (sym ed ∙ v)
+
+  pub brighter_not : d ≡ false → p ≡ brighter reading p q
+  unfolding brighter
+  brighter_not v = simp (sym ed ∙ v)

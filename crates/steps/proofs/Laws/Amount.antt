@@ -9,7 +9,7 @@ use Rattle.std.specs.Option.{SomeIff}
 use Rattle.steps.specs.Amount.{amount_of}
 use Rattle.steps.proofs.Laws.Order.{by_order}
 
-amount_fits : (n : ℕ) → n < 2 ^ 64 → Some n ≡ amount_of n
+pub amount_fits : (n : ℕ) → n < 2 ^ 64 → Some n ≡ amount_of n
 unfolding amount_of
 amount_fits n h = simp (lt-ltb n (2 ^ 64) h)
 

@@ -51,15 +51,22 @@ checked_append refusing [] ds rest = refl
 checked_append refusing (check number true ∷ cs) ds rest = refl
 checked_append refusing (check number false ∷ cs) ds rest = checked_append refusing cs ds rest
 
--- a call's answer, from the paper's
+-- a call's answer, from the paper's and the two cases of the call's own
+abbrev pub call_by : {A X : Type 0} → (A → X) → (Refusal → X) → Answer A → X
+call_by give refuse (done a) = give a
+call_by give refuse (refused number place) = refuse (record { reason = reason_of number; place = place })
+
+-- so two answers of a call are equal where the paper's are
+pub one_answer_by : {A X : Type 0} (give : A → X) (refuse : Refusal → X) (paper : X → Answer A) → ((x : X) → call_by give refuse (paper x) ≡ x) → (x y : X) → paper x ≡ paper y → x ≡ y
+one_answer_by give refuse paper same x y e = sym (same x) ∙ ap (call_by give refuse) e ∙ same y
+
+-- the same of a `Result`
 abbrev pub call_of : {A : Type 0} → Answer A → Result A Refusal
-call_of (done a) = Ok a
-call_of (refused number place) = Err (record { reason = reason_of number; place = place })
+call_of = call_by Ok Err
 
 call_again : {A : Type 0} (x : Result A Refusal) → call_of (paper_of x) ≡ x
 call_again (Ok a) = refl
 call_again (Err r) = rw (reason_again r.reason)
 
--- so two answers of a call are equal where the paper's are
 pub one_answer : {A : Type 0} (x y : Result A Refusal) → paper_of x ≡ paper_of y → x ≡ y
-one_answer x y e = sym (call_again x) ∙ ap call_of e ∙ call_again y
+one_answer = one_answer_by Ok Err paper_of call_again

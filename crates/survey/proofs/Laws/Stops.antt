@@ -53,7 +53,7 @@ stops_end store counts w i n e h = let none : n - i ≡ 0 = omega arith in rw no
 
 -- ---- The stop of light that is shown
 
-stop_light : (q : Rgbe) → is_black Document q ≡ false → q.e + digits (max (max q.r q.g) q.b) ≡ stop_of q
+pub stop_light : (q : Rgbe) → is_black Document q ≡ false → q.e + digits (max (max q.r q.g) q.b) ≡ stop_of q
 unfolding stop_of
 stop_light q t = simp t
 

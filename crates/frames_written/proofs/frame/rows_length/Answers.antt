@@ -18,7 +18,7 @@ counted g c =
     c.row_length-n.ensures.value ∙ ap (λ (l : List ℕ). length (written_row l 0 w)) (c.loop-k.invariant.1.same w c.loop-k.k)
 
 pub loop-k-init : goal.loop-k-init
-loop-k-init g c = (count_start _ _, kept_same _ _ _)
+loop-k-init g c = (count_start _ _, kept_same _ _ _ _)
 
 pub row_length-n-requires : goal.row_length-n-requires
 row_length-n-requires g c = (c.args.height, c.loop-k-test.true, c.loop-k.invariant.1.can _ _ c.requires.can)
@@ -29,7 +29,7 @@ overflow_add-n g c =
 
 pub loop-k-preserved : goal.loop-k-preserved
 loop-k-preserved g c =
-    (count_next _ _ _ _ c.loop-k-test.true _ _ c.loop-k.invariant.0 (counted g c), kept_again _ _ _ _ _ c.loop-k.invariant.1 c.row_length-n.ensures.kept)
+    (count_next _ _ _ _ c.loop-k-test.true _ _ c.loop-k.invariant.0 (counted g c), kept_again _ _ _ _ _ _ c.loop-k.invariant.1 c.row_length-n.ensures.kept)
 
 pub returns : goal.returns
 returns g c =

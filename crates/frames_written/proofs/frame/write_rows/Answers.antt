@@ -13,7 +13,7 @@ use Rattle.frames_written.proofs.frame.write_rows.Goals as goal
 pub loop-k-init : goal.loop-k-init
 loop-k-init g c =
     let start = store_start (g.R.Rows.line c.args.rows.now c.args.width) c.args.width c.args.out.now c.args.to in
-    (start.0, start.1, kept_same _ _ _)
+    (start.0, start.1, kept_same _ _ _ _)
 
 pub write_row-o-requires-clause-row : goal.write_row-o-requires-clause-row
 write_row-o-requires-clause-row g c = (c.args.height, c.loop-k-test.true, c.loop-k.invariant.2.can _ _ c.requires.can)
@@ -31,7 +31,7 @@ loop-k-preserved g c =
     let e = c.write_row-o.ensures in (
       place_next _ _ _ _ c.loop-k-test.true _ _ _ _ c.loop-k.invariant.0 c.loop-k.invariant.1 _ (e.next ∙ ap (λ (l : List ℕ). c.loop-k.o + length (written_row l 0 w)) same),
       store_next _ _ _ _ c.loop-k-test.true _ _ _ _ c.loop-k.invariant.0 c.loop-k.invariant.1 _ (e.stored ∙ ap (λ (l : List ℕ). spread 1 c.loop-k.out c.loop-k.o (written_row l 0 w)) same),
-      kept_again _ _ _ _ _ c.loop-k.invariant.2 e.kept,
+      kept_again _ _ _ _ _ _ c.loop-k.invariant.2 e.kept,
     )
 
 pub returns : goal.returns
@@ -41,4 +41,5 @@ returns g c =
     record {
       next = c.loop-k.invariant.0 ∙ ap (λ (k : ℕ). c.args.to + length (rows_by (g.R.Rows.line c.args.rows.now w) w k)) end;
       stored = c.loop-k.invariant.1 ∙ ap (λ (k : ℕ). spread 1 c.args.out.now c.args.to (rows_by (g.R.Rows.line c.args.rows.now w) w k)) end;
+      kept = c.loop-k.invariant.2;
     }

@@ -11,4 +11,4 @@ abbrev pub invariant-loop-k : goal.invariant-loop-k
 invariant-loop-k g l =
     (l.o ≡ l.to + length (rows_by (g.R.Rows.line l.initial.rows l.width) l.width l.k))
     × (l.out ≡ spread 1 l.initial.out l.to (rows_by (g.R.Rows.line l.initial.rows l.width) l.width l.k))
-    × Kept g.R.Rows.CanWrite g.R.Rows.line l.initial.rows l.rows
+    × Kept g.R.Rows.CanWrite g.R.Rows.line g.R.Rows.lent l.initial.rows l.rows
