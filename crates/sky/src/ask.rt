@@ -61,10 +61,9 @@ fn each_file<F: FnMut(&[u8]) -> Result<(), Refused>>(
     let mut refused = 0usize;
     let mut name = Word::EMPTY;
     for i in from..system::arg_count(rt) {
-        let told = if name.read(rt, i) {
-            tell(name.as_slice())
-        } else {
-            Err(wrong(rt, "a name is too long", b""))
+        let told = match name.read(rt, i) {
+            Some(name) => tell(name),
+            None => Err(wrong(rt, "a name is too long", b"")),
         };
         if told.is_err() {
             refused = refused.wrapping_add(1);

@@ -17,12 +17,13 @@ impl Word {
         length: 0,
     };
 
-    // Reads the word i, and answers whether it is there; it has no bytes where it is missing or longer.
-    // In place, and no answer of its own: a word takes 4 KiB, and would be moved with each.
-    pub(crate) fn read(&mut self, rt: &impl Env, i: usize) -> bool {
+    // Reads the word i, and answers its bytes; none where it is missing or longer, and then it is empty.
+    // In place: a word takes 4 KiB, and would be moved with each answer.
+    pub(crate) fn read(&mut self, rt: &impl Env, i: usize) -> Option<&[u8]> {
         let read = rt.arg(i, &mut self.bytes);
         self.length = read.unwrap_or(0);
-        read.is_ok()
+        read.ok()?;
+        Some(self.as_slice())
     }
 
     // Whether it has no bytes.
